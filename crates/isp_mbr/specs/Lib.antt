@@ -1,0 +1,4 @@
+pub mod Boxes
+pub mod Corners
+pub mod Laws
+pub mod Predicates
