@@ -1,6 +1,6 @@
 -- What the words on boxes mean in inequalities, and what follows from them: covering is an order, a union is the least
 -- box round both, and what meets a box meets each box round it.
-use Rattle.std.proofs.Common.{◌≡◌, ◌≤◌, ◌*◌, ℤ, ◌≤ℤ◌, Bool, true, false, ◌&&◌, not, refl, arith}
+use Rattle.std.proofs.Common.{◌≡◌, ◌≤◌, ℤ, ◌≤ℤ◌, Bool, true, false, ◌&&◌, refl, arith}
 use Rattle.std.specs.Prelude.{int_le}
 use Rattle.std.specs.Ordering.{int_eq}
 use Rattle.std.specs.Int.{int_min, int_max}

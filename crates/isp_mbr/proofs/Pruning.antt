@@ -1,5 +1,5 @@
 -- The laws of `may_hold`, by the five tests.
-use Rattle.std.proofs.Common.{◌≡◌, Bool, true, false, not, refl, sym, subst}
+use Rattle.std.proofs.Common.{◌≡◌, Bool, true, false, not, refl, subst}
 use Rattle.isp_mbr.specs.Corners.{Corners}
 use Rattle.isp_mbr.specs.Boxes.{IsBox, covers, meets}
 use Rattle.isp_mbr.specs.Predicates.{passes, may_pass, satisfies, may_hold}

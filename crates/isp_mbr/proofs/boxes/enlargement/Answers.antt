@@ -1,6 +1,6 @@
 -- A union covers what it is made of, so its area is no smaller.
 use Rattle.isp_mbr.specs.Boxes.{area, union}
-use Rattle.std.proofs.Common.{◌≤◌, arith}
+use Rattle.std.proofs.Common.{◌≤◌}
 use Rattle.isp_mbr.proofs.BoxLaws.{area_grows, union_covers_left}
 use Rattle.isp_mbr.proofs.boxes.enlargement.Goals as goal
 

@@ -1,5 +1,5 @@
 -- Each corner is the lesser or the greater of the two that were passed.
-use Rattle.std.proofs.Common.{◌≡◌, sym, rules}
+use Rattle.std.proofs.Common.{◌≡◌, rules}
 use Rattle.std.specs.Prelude.{FitsSigned}
 use Rattle.std.specs.Int.{w32, cast_signed, cast_unsigned, int_min, int_max}
 use Rattle.isp_mbr.proofs.SignedReads.{lesser_read, greater_read}

@@ -1,5 +1,5 @@
 -- The second axis decides, where the first one held.
-use Rattle.std.proofs.Common.{◌≡◌, true, sym, ◌∙◌, rules}
+use Rattle.std.proofs.Common.{sym, ◌∙◌, rules}
 use Rattle.std.specs.Prelude.{FitsSigned}
 use Rattle.std.specs.Int.{w32}
 use Rattle.isp_mbr.specs.Boxes.{same_span}
