@@ -1,0 +1,11 @@
+pub mod Alone
+pub mod Answers
+pub mod Does
+pub mod Entries
+pub mod Script
+pub mod Serial
+pub mod Spelling
+pub mod Tables
+pub mod Texts
+pub mod Transactions
+pub mod Values

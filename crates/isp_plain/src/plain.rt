@@ -1,0 +1,123 @@
+//! Plain tables in memory.
+
+ghost use Rattle.std.specs.Prelude.{◌≡◌, [], ◌∷◌, ◌++◌, ◌<◌, length, IfOk, OnOk, OnErr};
+ghost use Rattle.isp_plain.specs.Does.{does, insert_in, place_of, select_reply, table_named, no_such_table};
+
+use crate::held::Held;
+use crate::{Condition, Reply, Row, Schema, Statement};
+use isp_mbr::{Duplicate, Name};
+use std::alloc::{AllocError, Global};
+use std::marker::Model;
+
+/// Tables in memory, on which statements run one after another. Contracts see the list of the tables.
+#[derive(Drop)]
+pub struct Plain {
+    alloc: Global,
+    tables: Vec<Held>,
+}
+
+impl Model for Plain {
+    ghost use Rattle.std.specs.Prelude.{List};
+    ghost use Rattle.isp_plain.specs.Tables.{Table};
+
+    ghost Value = { List Table };
+
+    ghost view = { λ p. p.tables.items };
+}
+
+impl Plain {
+    /// No tables. It takes no memory.
+    pub fn new(alloc: Global) -> Plain
+        ensures { result ≡ [] }
+    {
+        Plain {
+            alloc,
+            tables: Vec::new(alloc),
+        }
+    }
+
+    /// What the statement answers on these tables, which become what it leaves. The error is want of memory, and leaves
+    /// them as they were.
+    pub fn run(&mut self, s: &Statement) -> Result<Reply, AllocError>
+        ensures reply { IfOk result (λ reply. reply ≡ (does self.old s.now).reply) }
+        ensures tables { OnOk result (self.new ≡ (does self.old s.now).tables) }
+        ensures err { OnErr result (self.new ≡ self.old) }
+    {
+        match s {
+            Statement::Create { name, schema } => {
+                self.add(name, schema)?;
+                Ok(Reply::Ok)
+            }
+            Statement::Insert { table, rows } => self.insert(table, rows.as_slice()),
+            Statement::Select { table, columns, w } => self.select(table, columns.as_slice(), w),
+            Statement::Begin | Statement::Commit | Statement::Rollback => Ok(Reply::Ok),
+            Statement::Refused { number, at } => Ok(refused(*number, *at)),
+        }
+    }
+
+    /// Adds a table with no row, last. The error is want of memory, and leaves the tables as they were.
+    pub fn add(&mut self, name: &Name, schema: &Schema) -> Result<(), AllocError>
+        ensures ok { OnOk result (self.new ≡ self.old ++ record { name = name.now; schema = schema.now; rows = [] } ∷ []) }
+        ensures err { OnErr result (self.new ≡ self.old) }
+    {
+        let table = Held::new(self.alloc, name.copy(self.alloc)?, schema.copy(self.alloc)?);
+        self.tables.push(table)?;
+        Ok(())
+    }
+
+    // The place of the table of that name.
+    fn place_of(&self, name: &Name) -> Option<usize>
+        ensures { result ≡ place_of self.now name.now }
+    {
+        self.tables.iter().position(|table| table.is_named(name))
+    }
+
+    fn insert(&mut self, table: &Name, rows: &[Row]) -> Result<Reply, AllocError>
+        ensures reply { IfOk result (λ reply. reply ≡ (insert_in self.old (place_of self.old table.now) rows.now).reply) }
+        ensures tables { OnOk result (self.new ≡ (insert_in self.old (place_of self.old table.now) rows.now).tables) }
+        ensures err { OnErr result (self.new ≡ self.old) }
+    {
+        match self.place_of(table) {
+            Some(place) => self.insert_at(place, rows),
+            None => Ok(no_such_table()),
+        }
+    }
+
+    fn insert_at(&mut self, place: usize, rows: &[Row]) -> Result<Reply, AllocError>
+        requires { place < length self.old }
+        ensures reply { IfOk result (λ reply. reply ≡ (insert_in self.old (Some place) rows.now).reply) }
+        ensures tables { OnOk result (self.new ≡ (insert_in self.old (Some place) rows.now).tables) }
+        ensures err { OnErr result (self.new ≡ self.old) }
+    {
+        let table = &mut self.tables[place];
+        table.insert(self.alloc, rows)
+    }
+
+    fn select(&self, table: &Name, columns: &[u32], w: &Condition) -> Result<Reply, AllocError>
+        ensures { IfOk result (λ reply. reply ≡ select_reply (table_named self.now table.now) columns.now w.now) }
+    {
+        match self.place_of(table) {
+            Some(place) => {
+                let rows = self.tables[place].select(self.alloc, columns, w)?;
+                Ok(Reply::Rows(rows))
+            }
+            None => Ok(no_such_table()),
+        }
+    }
+}
+
+// Binding refuses such a statement before it comes here.
+fn no_such_table() -> Reply
+    ensures { result ≡ no_such_table }
+{
+    Reply::Err {
+        number: 1146,
+        at: 0,
+    }
+}
+
+fn refused(number: u32, at: i64) -> Reply
+    ensures { result ≡ Reply.Err number at }
+{
+    Reply::Err { number, at }
+}
