@@ -1,0 +1,3 @@
+pub mod ListLaws
+pub mod PageLaws
+pub mod EntryLaws
