@@ -1,3 +1,4 @@
 pub mod ListLaws
 pub mod PageLaws
 pub mod EntryLaws
+pub mod ForestLaws
