@@ -2,3 +2,8 @@ pub mod ListLaws
 pub mod PageLaws
 pub mod EntryLaws
 pub mod ForestLaws
+pub mod WalkLaws
+pub mod RoundLaws
+pub mod RemoveLaws
+pub mod AddLaws
+pub mod RaiseLaws

@@ -1,0 +1,49 @@
+-- Walks along right links: they end where right links do, and stay where the links and numbers of pages stay.
+use Rattle.std.proofs.Common.{◌≡◌, ◌⊎◌, inl, inr, ℕ, zero, suc, ◌<◌, Bool, true, false, cond, Option, Some, None, List, [], ◌∷◌, refl, ap, sym, ◌∙◌}
+use Rattle.std.specs.Prelude.{nat_lt}
+use Rattle.isp_rnode.specs.Tree.{Page, Tree, page_at}
+use Rattle.isp_rnode.specs.Walk.{split_since, onward, IsWalk, right_of, link, EndsAfter, Links}
+
+pub walk_same : (old new : Tree) (s : ℕ) → ((p : ℕ) → onward old s p ≡ onward new s p) → (w : List ℕ) → IsWalk old s w → IsWalk new s w
+walk_same old new s same [] h = h
+walk_same old new s same (p ∷ []) h = sym (same p) ∙ h
+walk_same old new s same (p ∷ q ∷ rest) h = (sym (same p) ∙ h.0, walk_same old new s same (q ∷ rest) h.1)
+
+since_at : (s : ℕ) (o : Option Page) → (split_since s o ≡ None) ⊎ (split_since s o ≡ right_of o)
+since_at s None = inl refl
+since_at s (Some page) = elim (nat_lt s page.ssn) as (λ b. (cond b page.next None ≡ None) ⊎ (cond b page.next None ≡ page.next)) [ true ↦ inr refl | false ↦ inl refl ]
+
+-- a walk stops or follows the right link
+pub stops_or_links : (tree : Tree) (s p : ℕ) → (onward tree s p ≡ None) ⊎ (onward tree s p ≡ link tree p)
+stops_or_links tree s p = since_at s (page_at tree p)
+
+pub record Ending (tree : Tree) (s p : ℕ) : Type 0 where
+  pub rest : List ℕ
+  pub walk : IsWalk tree s (p ∷ rest)
+
+pub walk_ends : (tree : Tree) (s n p : ℕ) → EndsAfter tree n p → Ending tree s p
+walk_ends tree s zero p h =
+    elim (stops_or_links tree s p) [ inl stops ↦ record { rest = []; walk = stops } | inr links ↦ record { rest = []; walk = links ∙ h } ]
+walk_ends tree s (suc n) p h =
+    elim (stops_or_links tree s p) [
+      inl stops ↦ record { rest = []; walk = stops }
+    | inr links ↦ (let w : Ending tree s h.0 = walk_ends tree s n h.0 h.2 in record { rest = h.0 ∷ w.rest; walk = (links ∙ h.1, w.walk) })
+    ]
+
+-- ---- links that stay
+
+pub ends_same : (old new : Tree) → ((p : ℕ) → link old p ≡ link new p) → (n p : ℕ) → EndsAfter old n p → EndsAfter new n p
+ends_same old new same zero p h = sym (same p) ∙ h
+ends_same old new same (suc n) p h = (h.0, sym (same p) ∙ h.1, ends_same old new same n h.0 h.2)
+
+pub links_same : (old new : Tree) → ((p : ℕ) → link old p ≡ link new p) → Links old → Links new
+links_same old new same links = record {
+  apart = λ p q r h k. links.apart p q r (same p ∙ h) (same q ∙ k);
+  ends = λ p. (let e : (n : ℕ) × EndsAfter old n p = links.ends p in (e.0, ends_same old new same e.0 p e.1));
+}
+
+-- ---- right links never lead back to where one was
+
+abbrev pub Follows : Tree → ℕ → ℕ → ℕ → Type 0
+Follows tree zero p q = link tree p ≡ Some q
+Follows tree (suc n) p q = (r : ℕ) × (link tree p ≡ Some r) × Follows tree n r q
