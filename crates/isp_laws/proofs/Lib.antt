@@ -7,3 +7,4 @@ pub mod RoundLaws
 pub mod RemoveLaws
 pub mod AddLaws
 pub mod RaiseLaws
+pub mod SplitLaws

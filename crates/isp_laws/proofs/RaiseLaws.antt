@@ -1,6 +1,6 @@
 -- Raising the root keeps the forest, and leaves all walks: the root keeps its number, and no right link leads to the new page.
 use Rattle.std.proofs.Common.{◌≡◌, ◌⊎◌, inl, inr, ℕ, zero, suc, ◌+◌, ◌<◌, ◌≤◌, ◌==◌, Bool, true, false, cond, Option, Some, None, List, [], ◌∷◌, ◌++◌, length, refl, ap, sym, ◌∙◌, arith, subst, eqb-true, eq-eqb}
-use Rattle.std.specs.Prelude.{is_none}
+use Rattle.std.specs.Prelude.{is_none, nat_lt}
 use Rattle.std.proofs.lemmas.Bool.Decides.{nat_tests}
 use Rattle.isp_mbr.specs.Boxes.{IsBox, covers}
 use Rattle.isp_rnode.specs.declared.entry.Entry.{Entry}
@@ -195,3 +195,54 @@ raised_forest tree forest q can = record {
 
 pub raise_keeps : (tree : Tree) (forest : Forest tree) (q : ℕ) → CanRaise tree forest q → Forest (raise tree q)
 raise_keeps tree forest q can = subst Forest (sym (made tree q forest.top forest.rooted)) (raised_forest tree forest q can)
+
+-- ---- links and walks
+
+since_none : (b : Bool) → ◌≡◌ {A = Option ℕ} (cond b None None) None
+since_none true = refl
+since_none false = refl
+
+pub raise_onward : (tree : Tree) (forest : Forest tree) (q : ℕ) → IsFree tree q → (s p : ℕ) → onward tree s p ≡ onward (raise tree q) s p
+raise_onward tree forest q free s p = stays ∙ ap (λ (t : Tree). onward t s p) (sym (made tree q forest.top forest.rooted))
+  where
+  q_other : (tree.root == q) ≡ false
+  q_other = apart tree.pages tree.root q forest.top forest.rooted free
+  stays : onward tree s p ≡ onward (raised tree q (Some forest.top)) s p
+  stays = elim (tree.root == p) as (λ b. (tree.root == p) ≡ b → onward tree s p ≡ onward (raised tree q (Some forest.top)) s p) [
+      true ↦ λ t. (let at : tree.root ≡ p = eqb-true tree.root p t in
+        let before : onward tree s p ≡ None = ap (onward tree s) (sym at) ∙ ap (split_since s) forest.rooted ∙ ap (λ o. cond (nat_lt s forest.top.ssn) o None) forest.alone ∙ since_none (nat_lt s forest.top.ssn) in
+        let after : onward (raised tree q (Some forest.top)) s p ≡ None = ap (onward (raised tree q (Some forest.top)) s) (sym at) ∙ ap (split_since s) (page_in-put_same tree.root (lifted forest.top q) (within tree forest.top q)) ∙ since_none (nat_lt s forest.top.ssn) in
+        before ∙ sym after)
+    | false ↦ λ t. elim (q == p) as (λ b. (q == p) ≡ b → onward tree s p ≡ onward (raised tree q (Some forest.top)) s p) [
+        true ↦ λ u. (let at : q ≡ p = eqb-true q p u in
+          let before : onward tree s p ≡ None = ap (onward tree s) (sym at) ∙ ap (split_since s) free in
+          let there : page_at (raised tree q (Some forest.top)) q ≡ Some (moved forest.top) = page_in-put_other tree.root q (lifted forest.top q) (within tree forest.top q) q_other ∙ page_in-put_same q (moved forest.top) tree.pages in
+          let after : onward (raised tree q (Some forest.top)) s p ≡ None = ap (onward (raised tree q (Some forest.top)) s) (sym at) ∙ ap (split_since s) there ∙ since_none (nat_lt s forest.top.ssn) in
+          before ∙ sym after)
+      | false ↦ λ u. ap (split_since s) (sym (page_in-put_other tree.root p (lifted forest.top q) (within tree forest.top q) t ∙ page_in-put_other q p (moved forest.top) tree.pages u))
+      ] refl
+    ] refl
+
+pub raise_link : (tree : Tree) (forest : Forest tree) (q : ℕ) → IsFree tree q → (p : ℕ) → link tree p ≡ link (raise tree q) p
+raise_link tree forest q free p = stays ∙ ap (λ (t : Tree). link t p) (sym (made tree q forest.top forest.rooted))
+  where
+  q_other : (tree.root == q) ≡ false
+  q_other = apart tree.pages tree.root q forest.top forest.rooted free
+  stays : link tree p ≡ link (raised tree q (Some forest.top)) p
+  stays = elim (tree.root == p) as (λ b. (tree.root == p) ≡ b → link tree p ≡ link (raised tree q (Some forest.top)) p) [
+      true ↦ λ t. (let at : tree.root ≡ p = eqb-true tree.root p t in
+        let before : link tree p ≡ None = ap (link tree) (sym at) ∙ ap right_of forest.rooted ∙ forest.alone in
+        let after : link (raised tree q (Some forest.top)) p ≡ None = ap (link (raised tree q (Some forest.top))) (sym at) ∙ ap right_of (page_in-put_same tree.root (lifted forest.top q) (within tree forest.top q)) in
+        before ∙ sym after)
+    | false ↦ λ t. elim (q == p) as (λ b. (q == p) ≡ b → link tree p ≡ link (raised tree q (Some forest.top)) p) [
+        true ↦ λ u. (let at : q ≡ p = eqb-true q p u in
+          let before : link tree p ≡ None = ap (link tree) (sym at) ∙ ap right_of free in
+          let there : page_at (raised tree q (Some forest.top)) q ≡ Some (moved forest.top) = page_in-put_other tree.root q (lifted forest.top q) (within tree forest.top q) q_other ∙ page_in-put_same q (moved forest.top) tree.pages in
+          let after : link (raised tree q (Some forest.top)) p ≡ None = ap (link (raised tree q (Some forest.top))) (sym at) ∙ ap right_of there in
+          before ∙ sym after)
+      | false ↦ λ u. ap right_of (sym (page_in-put_other tree.root p (lifted forest.top q) (within tree forest.top q) t ∙ page_in-put_other q p (moved forest.top) tree.pages u))
+      ] refl
+    ] refl
+
+pub raise_links : (tree : Tree) (forest : Forest tree) (q : ℕ) → IsFree tree q → Links tree → Links (raise tree q)
+raise_links tree forest q free links = links_same tree (raise tree q) (raise_link tree forest q free) links
