@@ -8,3 +8,5 @@ pub mod RemoveLaws
 pub mod AddLaws
 pub mod RaiseLaws
 pub mod SplitLaws
+pub mod SplitWalkLaws
+pub mod PlaceLaws

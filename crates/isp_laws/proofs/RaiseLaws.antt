@@ -9,7 +9,7 @@ use Rattle.isp_rnode.specs.Tree.{Page, Tree, page_in, page_at, counter, ssn_of, 
 use Rattle.isp_rnode.specs.Forest.{Forest, IsBelow, IsPage, IsLinked}
 use Rattle.isp_rnode.specs.Walk.{split_since, onward, right_of, link, Links}
 use Rattle.isp_machine.specs.Steps.{put, entry_for, raised, raise}
-use Rattle.isp_machine.specs.Place.{Names, IsFree}
+use Rattle.isp_machine.specs.Place.{Names, IsFree, CanRaise}
 use Rattle.isp_laws.proofs.ListLaws.{times-append}
 use Rattle.isp_laws.proofs.PageLaws.{page_in-put_same, page_in-put_other, put_new, numbers-put, named-put, named-append, numbers-append, times_free, times_there}
 use Rattle.isp_laws.proofs.EntryLaws.{least_covers, IsBox-least}
@@ -53,11 +53,7 @@ lifted top q = record { level = suc top.level; ssn = top.ssn; next = None; entri
 abbrev pub moved : Page → Page
 moved top = record top { next = None }
 
-pub record CanRaise (tree : Tree) (forest : Forest tree) (q : ℕ) : Type 0 where
-  pub free : IsFree tree q
-  pub two : 0 < forest.top.level → 2 ≤ length forest.top.entries
-
-made : (tree : Tree) (q : ℕ) (top : Page) → page_at tree tree.root ≡ Some top → raise tree q ≡ raised tree q (Some top)
+pub made : (tree : Tree) (q : ℕ) (top : Page) → page_at tree tree.root ≡ Some top → raise tree q ≡ raised tree q (Some top)
 made tree q top rooted = ap (raised tree q) rooted
 
 abbrev pub one_if : Bool → ℕ
@@ -76,7 +72,7 @@ within tree top q = put q (moved top) tree.pages
 abbrev lifted_pages : Tree → Page → ℕ → List (ℕ × Page)
 lifted_pages tree top q = put tree.root (lifted top q) (within tree top q)
 
-raised_forest : (tree : Tree) (forest : Forest tree) (q : ℕ) → CanRaise tree forest q → Forest (raised tree q (Some forest.top))
+raised_forest : (tree : Tree) (forest : Forest tree) (q : ℕ) → CanRaise tree q → Forest (raised tree q (Some forest.top))
 raised_forest tree forest q can = record {
   top = lifted forest.top q;
   rooted = at_root;
@@ -128,7 +124,7 @@ raised_forest tree forest q can = record {
   moved_page x at = record {
     kinds = is_top.kinds;
     boxes = is_top.boxes;
-    filled = λ inner. at_most_two (x == tree.root) (length forest.top.entries) (can.two inner);
+    filled = λ inner. at_most_two (x == tree.root) (length forest.top.entries) (can.two forest.top forest.rooted inner);
     numbered = omega (arith, counter_stays, is_top.numbered);
   }
   page_of : (x : ℕ) (page : Page) → page_in (lifted_pages tree forest.top q) x ≡ Some page → IsPage (raised tree q (Some forest.top)) x page
@@ -193,7 +189,7 @@ raised_forest tree forest q can = record {
       ]
     ]
 
-pub raise_keeps : (tree : Tree) (forest : Forest tree) (q : ℕ) → CanRaise tree forest q → Forest (raise tree q)
+pub raise_keeps : (tree : Tree) (forest : Forest tree) (q : ℕ) → CanRaise tree q → Forest (raise tree q)
 raise_keeps tree forest q can = subst Forest (sym (made tree q forest.top forest.rooted)) (raised_forest tree forest q can)
 
 -- ---- links and walks

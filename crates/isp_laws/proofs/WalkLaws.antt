@@ -1,5 +1,5 @@
 -- Walks along right links: they end where right links do, and stay where the links and numbers of pages stay.
-use Rattle.std.proofs.Common.{◌≡◌, ◌⊎◌, inl, inr, ℕ, zero, suc, ◌<◌, Bool, true, false, cond, Option, Some, None, List, [], ◌∷◌, refl, ap, sym, ◌∙◌}
+use Rattle.std.proofs.Common.{◌≡◌, ◌⊎◌, inl, inr, ℕ, zero, suc, ◌+◌, ◌<◌, Bool, true, false, cond, Option, Some, None, List, [], ◌∷◌, refl, ap, sym, ◌∙◌, subst, arith}
 use Rattle.std.specs.Prelude.{nat_lt}
 use Rattle.isp_rnode.specs.Tree.{Page, Tree, page_at}
 use Rattle.isp_rnode.specs.Walk.{split_since, onward, IsWalk, right_of, link, EndsAfter, Links}
@@ -47,3 +47,36 @@ links_same old new same links = record {
 abbrev pub Follows : Tree → ℕ → ℕ → ℕ → Type 0
 Follows tree zero p q = link tree p ≡ Some q
 Follows tree (suc n) p q = (r : ℕ) × (link tree p ≡ Some r) × Follows tree n r q
+
+record Later (tree : Tree) (n k q : ℕ) : Type 0 where
+  left : ℕ
+  sum : k ≡ suc n + left
+  ends : EndsAfter tree left q
+
+ends_later : (tree : Tree) (n k p q : ℕ) → Follows tree n p q → EndsAfter tree k p → Later tree n k q
+ends_later tree zero zero p q h e = let no : ⊥ = cc in absurd no
+ends_later tree zero (suc k) p q h e =
+    let same : Some e.0 ≡ Some q = sym e.1 ∙ h in
+    let at : e.0 ≡ q = cc in
+    record { left = k; sum = omega arith; ends = subst (EndsAfter tree k) at e.2 }
+ends_later tree (suc n) zero p q h e = let a : link tree p ≡ Some h.0 = h.1 in let no : ⊥ = cc in absurd no
+ends_later tree (suc n) (suc k) p q h e =
+    let same : Some e.0 ≡ Some h.0 = sym e.1 ∙ h.1 in
+    let at : e.0 ≡ h.0 = cc in
+    let l : Later tree n k q = ends_later tree n k h.0 q h.2 (subst (EndsAfter tree k) at e.2) in
+    record { left = l.left; sum = omega (arith, l.sum); ends = l.ends }
+
+ends_once : (tree : Tree) (k n p : ℕ) → EndsAfter tree k p → EndsAfter tree n p → k ≡ n
+ends_once tree zero zero p h e = refl
+ends_once tree zero (suc n) p h e = let a : link tree p ≡ Some e.0 = e.1 in let no : ⊥ = cc in absurd no
+ends_once tree (suc k) zero p h e = let a : link tree p ≡ Some h.0 = h.1 in let no : ⊥ = cc in absurd no
+ends_once tree (suc k) (suc n) p h e =
+    let same : Some e.0 ≡ Some h.0 = sym e.1 ∙ h.1 in
+    let at : e.0 ≡ h.0 = cc in
+    ap suc (ends_once tree k n h.0 h.2 (subst (EndsAfter tree n) at e.2))
+
+pub never_back : (tree : Tree) → Links tree → (n p : ℕ) → Follows tree n p p → ⊥
+never_back tree links n p h =
+    let e : (k : ℕ) × EndsAfter tree k p = links.ends p in
+    let l : Later tree n e.0 p = ends_later tree n e.0 p p h e.1 in
+    omega (arith, l.sum, ends_once tree e.0 l.left p e.1 l.ends)

@@ -47,6 +47,11 @@ pub record IsDivision (level : ℕ) (entries left right : List Entry) : Type 0 w
   pub left_two : 0 < level → 2 ≤ length left
   pub right_two : 0 < level → 2 ≤ length right
 
+-- the raise of the root to page q, which no tree has; a root that is no leaf has two entries at least
+pub record CanRaise (tree : Tree) (q : ℕ) : Type 0 where
+  pub free : IsFree tree q
+  pub two : (top : Page) → page_at tree tree.root ≡ Some top → 0 < top.level → 2 ≤ length top.entries
+
 -- a split of page o, which the page above names, into these parts and the page n, which no tree has
 pub record CanSplit (tree : Tree) (o above : ℕ) (left right : List Entry) (n : ℕ) : Type 0 where
   pub page : Page

@@ -82,6 +82,11 @@ split_of tree o above left right n (Some page) = record tree {
 abbrev pub split : Tree → ℕ → ℕ → List Entry → List Entry → ℕ → Tree
 split tree o above left right n = split_of tree o above left right n (page_at tree o)
 
+-- a list of pages with page n put after page o
+abbrev pub put_after : ℕ → ℕ → List ℕ → List ℕ
+put_after o n [] = []
+put_after o n (p ∷ rest) = cond (p == o) (p ∷ n ∷ put_after o n rest) (p ∷ put_after o n rest)
+
 -- ---- remove: the entry with that number leaves its leaf; no box shrinks
 
 abbrev pub is_row : ℕ → To → Bool
