@@ -1,5 +1,5 @@
 -- Entries of a page: which pages they name, the least box round them, and the two parts of a division.
-use Rattle.std.proofs.Common.{◌≡◌, ◌⊎◌, inl, inr, ℕ, zero, suc, ◌+◌, ◌<◌, ◌≤◌, ◌==◌, Bool, true, false, cond, Option, Some, None, List, [], ◌∷◌, ◌++◌, map, length, refl, ap, sym, ◌∙◌, arith, subst, IsPermutation, pos, ◌≤ℤ◌, ℤ}
+use Rattle.std.proofs.Common.{◌≡◌, inl, inr, ℕ, ◌+◌, ◌<◌, ◌==◌, true, false, cond, Option, Some, None, List, [], ◌∷◌, ◌++◌, map, length, refl, ap, sym, ◌∙◌, arith, subst, IsPermutation, pos, ◌≤ℤ◌}
 use Rattle.std.specs.Prelude.{filter, All, not, sum_by}
 use Rattle.std.specs.List.{cons_option}
 use Rattle.std.proofs.lemmas.Int.{ints}
@@ -15,7 +15,7 @@ use Rattle.isp_rnode.specs.declared.entry.To.TheVariants.{Child, Row}
 use Rattle.isp_rnode.specs.Lists.{Has, times}
 use Rattle.isp_rnode.specs.Tree.{child_in, child_of, children, around, least}
 use Rattle.isp_machine.specs.Steps.{is_row}
-use Rattle.isp_laws.proofs.ListLaws.{Has-append_left, Has-append_right, times-append, times-Has, Has-times}
+use Rattle.isp_laws.proofs.ListLaws.{times-Has}
 
 -- ---- the pages that entries name
 

@@ -10,3 +10,5 @@ pub mod RaiseLaws
 pub mod SplitLaws
 pub mod SplitWalkLaws
 pub mod PlaceLaws
+pub mod CheckLaws
+pub mod ExampleLaws

@@ -1,11 +1,9 @@
 -- The finite map of a tree's pages: what `put` and `each` change of it, and which pages its entries name, how often.
-use Rattle.std.proofs.Common.{◌≡◌, ◌≢◌, ◌⊎◌, inl, inr, ℕ, zero, suc, ◌+◌, ◌*◌, ◌<◌, ◌≤◌, ◌==◌, Bool, true, false, cond, Option, Some, None, List, [], ◌∷◌, ◌++◌, refl, ap, sym, ◌∙◌, arith, eqb-true, eq-eqb, subst}
-use Rattle.std.proofs.lemmas.Bool.Decides.{nat_tests}
-use Rattle.isp_rnode.specs.declared.entry.Entry.{Entry}
-use Rattle.isp_rnode.specs.Lists.{Has, times}
-use Rattle.isp_rnode.specs.Tree.{Page, page_in, child_of, children, numbers, named}
+use Rattle.std.proofs.Common.{◌≡◌, ◌⊎◌, inl, inr, ℕ, ◌+◌, ◌*◌, ◌<◌, ◌≤◌, ◌==◌, Bool, true, false, cond, Option, Some, None, List, [], ◌∷◌, ◌++◌, refl, ap, sym, ◌∙◌, arith, eqb-true, eq-eqb, subst}
+use Rattle.isp_rnode.specs.Lists.{times}
+use Rattle.isp_rnode.specs.Tree.{Page, page_in, children, numbers, named}
 use Rattle.isp_machine.specs.Steps.{put, each}
-use Rattle.isp_laws.proofs.ListLaws.{times-append, times-Has, Has-times}
+use Rattle.isp_laws.proofs.ListLaws.{times-append}
 
 -- ---- put
 
@@ -13,16 +11,16 @@ pub page_in-put_same : (q : ℕ) (page : Page) (m : List (ℕ × Page)) → page
 page_in-put_same q page [] = let t : (q == q) ≡ true = eq-eqb q q refl in rw t refl
 page_in-put_same q page (p ∷ rest) =
     elim (p.0 == q) as (λ b. (p.0 == q) ≡ b → page_in (cond b ((q, page) ∷ rest) (p ∷ put q page rest)) q ≡ Some page) [
-      true ↦ λ e. (let t : (q == q) ≡ true = eq-eqb q q refl in rw t refl)
-    | false ↦ λ e. rw e (page_in-put_same q page rest)
+      | true ↦ λ e. (let t : (q == q) ≡ true = eq-eqb q q refl in rw t refl)
+      | false ↦ λ e. rw e (page_in-put_same q page rest)
     ] refl
 
 pub page_in-put_other : (q r : ℕ) (page : Page) (m : List (ℕ × Page)) → (q == r) ≡ false → page_in (put q page m) r ≡ page_in m r
 page_in-put_other q r page [] other = rw other refl
 page_in-put_other q r page (p ∷ rest) other =
     elim (p.0 == q) as (λ b. (p.0 == q) ≡ b → page_in (cond b ((q, page) ∷ rest) (p ∷ put q page rest)) r ≡ page_in (p ∷ rest) r) [
-      true ↦ λ e. (let same : p.0 ≡ q = eqb-true p.0 q e in let t : (p.0 == r) ≡ false = ap (λ x. x == r) same ∙ other in rw (other, t) refl)
-    | false ↦ λ e. ap (cond (p.0 == r) (Some p.1)) (page_in-put_other q r page rest other)
+      | true ↦ λ e. (let same : p.0 ≡ q = eqb-true p.0 q e in let t : (p.0 == r) ≡ false = ap (λ x. x == r) same ∙ other in rw (other, t) refl)
+      | false ↦ λ e. ap (cond (p.0 == r) (Some p.1)) (page_in-put_other q r page rest other)
     ] refl
 
 -- a page that has no number yet is added last
@@ -30,8 +28,8 @@ pub put_new : (q : ℕ) (page : Page) (m : List (ℕ × Page)) → page_in m q �
 put_new q page [] free = refl
 put_new q page (p ∷ rest) free =
     elim (p.0 == q) as (λ b. cond b (Some p.1) (page_in rest q) ≡ None → cond b ((q, page) ∷ rest) (p ∷ put q page rest) ≡ p ∷ (rest ++ (q, page) ∷ [])) [
-      true ↦ λ h. cc
-    | false ↦ λ h. ap (λ xs. p ∷ xs) (put_new q page rest h)
+      | true ↦ λ h. cc
+      | false ↦ λ h. ap (λ xs. p ∷ xs) (put_new q page rest h)
     ] free
 
 -- a page in the place of another leaves the numbers
@@ -39,8 +37,8 @@ pub numbers-put : (q : ℕ) (page old : Page) (m : List (ℕ × Page)) → page_
 numbers-put q page old [] there = cc
 numbers-put q page old (p ∷ rest) there =
     elim (p.0 == q) as (λ b. (p.0 == q) ≡ b → cond b (Some p.1) (page_in rest q) ≡ Some old → numbers (cond b ((q, page) ∷ rest) (p ∷ put q page rest)) ≡ p.0 ∷ numbers rest) [
-      true ↦ λ e h. ap (λ x. x ∷ numbers rest) (sym (eqb-true p.0 q e))
-    | false ↦ λ e h. ap (λ xs. p.0 ∷ xs) (numbers-put q page old rest h)
+      | true ↦ λ e h. ap (λ x. x ∷ numbers rest) (sym (eqb-true p.0 q e))
+      | false ↦ λ e h. ap (λ xs. p.0 ∷ xs) (numbers-put q page old rest h)
     ] refl there
 
 pub named-put : (q : ℕ) (page old : Page) (m : List (ℕ × Page)) (r : ℕ) → page_in m q ≡ Some old
@@ -48,11 +46,11 @@ pub named-put : (q : ℕ) (page old : Page) (m : List (ℕ × Page)) (r : ℕ) �
 named-put q page old [] r there = cc
 named-put q page old (p ∷ rest) r there =
     elim (p.0 == q) as (λ b. (p.0 == q) ≡ b → cond b (Some p.1) (page_in rest q) ≡ Some old
-      → times r (named (cond b ((q, page) ∷ rest) (p ∷ put q page rest))) + times r (children old.entries) ≡ times r (children p.1.entries ++ named rest) + times r (children page.entries)) [
-      true ↦ λ e h. (let P : Page → Type 0 = λ x. times r (children page.entries ++ named rest) + times r (children x.entries) ≡ times r (children p.1.entries ++ named rest) + times r (children page.entries) in
-        let same : p.1 ≡ old = cc in
-        subst P same (omega (arith, times-append r (children page.entries) (named rest), times-append r (children p.1.entries) (named rest))))
-    | false ↦ λ e h. omega (arith, times-append r (children p.1.entries) (named (put q page rest)), times-append r (children p.1.entries) (named rest), named-put q page old rest r h)
+    → times r (named (cond b ((q, page) ∷ rest) (p ∷ put q page rest))) + times r (children old.entries) ≡ times r (children p.1.entries ++ named rest) + times r (children page.entries)) [
+      | true ↦ λ e h. (let P : Page → Type 0 = λ x. times r (children page.entries ++ named rest) + times r (children x.entries) ≡ times r (children p.1.entries ++ named rest) + times r (children page.entries) in
+          let same : p.1 ≡ old = cc in
+          subst P same (omega (arith, times-append r (children page.entries) (named rest), times-append r (children p.1.entries) (named rest))))
+      | false ↦ λ e h. omega (arith, times-append r (children p.1.entries) (named (put q page rest)), times-append r (children p.1.entries) (named rest), named-put q page old rest r h)
     ] refl there
 
 pub named-append : (m n : List (ℕ × Page)) (r : ℕ) → times r (named (m ++ n)) ≡ times r (named m) + times r (named n)
@@ -74,8 +72,8 @@ pub page_in-each : (f : ℕ → Page → Page) (m : List (ℕ × Page)) (q : ℕ
 page_in-each f [] q = refl
 page_in-each f (p ∷ rest) q =
     elim (p.0 == q) as (λ b. (p.0 == q) ≡ b → cond b (Some (f p.0 p.1)) (page_in (each f rest) q) ≡ changed f q (cond b (Some p.1) (page_in rest q))) [
-      true ↦ λ e. ap (λ x. Some (f x p.1)) (eqb-true p.0 q e)
-    | false ↦ λ e. page_in-each f rest q
+      | true ↦ λ e. ap (λ x. Some (f x p.1)) (eqb-true p.0 q e)
+      | false ↦ λ e. page_in-each f rest q
     ] refl
 
 pub numbers-each : (f : ℕ → Page → Page) (m : List (ℕ × Page)) → numbers (each f m) ≡ numbers m
@@ -127,16 +125,16 @@ pub times_there : (m : List (ℕ × Page)) (q : ℕ) (page : Page) → page_in m
 times_there [] q page h = let no : ⊥ = cc in absurd no
 times_there (p ∷ rest) q page h =
     elim (p.0 == q) as (λ b. cond b (Some p.1) (page_in rest q) ≡ Some page → 0 < cond b 1 0 + times q (numbers rest)) [
-      true ↦ λ k. omega arith
-    | false ↦ λ k. (let i : 0 < times q (numbers rest) = times_there rest q page k in omega arith)
+      | true ↦ λ k. omega arith
+      | false ↦ λ k. (let i : 0 < times q (numbers rest) = times_there rest q page k in omega arith)
     ] h
 
 pub times_free : (m : List (ℕ × Page)) (q : ℕ) → page_in m q ≡ None → times q (numbers m) ≡ 0
 times_free [] q h = refl
 times_free (p ∷ rest) q h =
     elim (p.0 == q) as (λ b. cond b (Some p.1) (page_in rest q) ≡ None → cond b 1 0 + times q (numbers rest) ≡ 0) [
-      true ↦ λ k. cc
-    | false ↦ λ k. (let i : times q (numbers rest) ≡ 0 = times_free rest q k in omega arith)
+      | true ↦ λ k. cc
+      | false ↦ λ k. (let i : times q (numbers rest) ≡ 0 = times_free rest q k in omega arith)
     ] h
 
 pub record There (m : List (ℕ × Page)) (q : ℕ) : Type 0 where
@@ -156,9 +154,9 @@ pub times_of_page : (m : List (ℕ × Page)) (p : ℕ) (page : Page) (r : ℕ) �
 times_of_page [] p page r h = let no : ⊥ = cc in absurd no
 times_of_page (x ∷ rest) p page r h =
     elim (x.0 == p) as (λ b. cond b (Some x.1) (page_in rest p) ≡ Some page → times r (children page.entries) ≤ times r (children x.1.entries ++ named rest)) [
-      true ↦ λ k. (let same : x.1 ≡ page = cc in let P : Page → Type 0 = λ z. times r (children z.entries) ≤ times r (children x.1.entries ++ named rest) in
-        subst P same (omega (arith, times-append r (children x.1.entries) (named rest))))
-    | false ↦ λ k. omega (arith, times_of_page rest p page r k, times-append r (children x.1.entries) (named rest))
+      | true ↦ λ k. (let same : x.1 ≡ page = cc in let P : Page → Type 0 = λ z. times r (children z.entries) ≤ times r (children x.1.entries ++ named rest) in
+          subst P same (omega (arith, times-append r (children x.1.entries) (named rest))))
+      | false ↦ λ k. omega (arith, times_of_page rest p page r k, times-append r (children x.1.entries) (named rest))
     ] h
 
 -- two pages name no page more often than all do
@@ -167,16 +165,16 @@ pub times_of_two : (m : List (ℕ × Page)) (p q : ℕ) (a b : Page) (r : ℕ) �
 times_of_two [] p q a b r h k other = let no : ⊥ = cc in absurd no
 times_of_two (x ∷ rest) p q a b r h k other =
     elim (x.0 == p) as (λ s. (x.0 == p) ≡ s → cond s (Some x.1) (page_in rest p) ≡ Some a → times r (children a.entries) + times r (children b.entries) ≤ times r (children x.1.entries ++ named rest)) [
-      true ↦ λ e h'. (let same : x.1 ≡ a = cc in
-        let at_p : x.0 ≡ p = eqb-true x.0 p e in
-        let t : (x.0 == q) ≡ false = ap (λ z. z == q) at_p ∙ other in
-        let k' : page_in rest q ≡ Some b = rw t at k in
-        let P : Page → Type 0 = λ z. times r (children z.entries) + times r (children b.entries) ≤ times r (children x.1.entries ++ named rest) in
-        subst P same (omega (arith, times_of_page rest q b r k', times-append r (children x.1.entries) (named rest))))
-    | false ↦ λ e h'. elim (x.0 == q) as (λ s. cond s (Some x.1) (page_in rest q) ≡ Some b → times r (children a.entries) + times r (children b.entries) ≤ times r (children x.1.entries ++ named rest)) [
-        true ↦ λ k'. (let same : x.1 ≡ b = cc in
-          let P : Page → Type 0 = λ z. times r (children a.entries) + times r (children z.entries) ≤ times r (children x.1.entries ++ named rest) in
-          subst P same (omega (arith, times_of_page rest p a r h', times-append r (children x.1.entries) (named rest))))
-      | false ↦ λ k'. omega (arith, times_of_two rest p q a b r h' k' other, times-append r (children x.1.entries) (named rest))
+      | true ↦ λ e h'. (let same : x.1 ≡ a = cc in
+          let at_p : x.0 ≡ p = eqb-true x.0 p e in
+          let t : (x.0 == q) ≡ false = ap (λ z. z == q) at_p ∙ other in
+          let k' : page_in rest q ≡ Some b = rw t at k in
+          let P : Page → Type 0 = λ z. times r (children z.entries) + times r (children b.entries) ≤ times r (children x.1.entries ++ named rest) in
+          subst P same (omega (arith, times_of_page rest q b r k', times-append r (children x.1.entries) (named rest))))
+      | false ↦ λ e h'. elim (x.0 == q) as (λ s. cond s (Some x.1) (page_in rest q) ≡ Some b → times r (children a.entries) + times r (children b.entries) ≤ times r (children x.1.entries ++ named rest)) [
+        | true ↦ λ k'. (let same : x.1 ≡ b = cc in
+            let P : Page → Type 0 = λ z. times r (children a.entries) + times r (children z.entries) ≤ times r (children x.1.entries ++ named rest) in
+            subst P same (omega (arith, times_of_page rest p a r h', times-append r (children x.1.entries) (named rest))))
+        | false ↦ λ k'. omega (arith, times_of_two rest p q a b r h' k' other, times-append r (children x.1.entries) (named rest))
       ] k
     ] refl h

@@ -1,11 +1,11 @@
 -- Removing a leaf's entry keeps the forest, and leaves all links and numbers.
-use Rattle.std.proofs.Common.{◌≡◌, ◌⊎◌, inl, inr, ℕ, suc, ◌<◌, ◌≤◌, ◌==◌, Bool, true, false, cond, Option, Some, None, List, [], ◌∷◌, length, refl, ap, sym, ◌∙◌, arith, subst, eqb-true}
+use Rattle.std.proofs.Common.{◌≡◌, inl, inr, ℕ, ◌<◌, ◌==◌, true, false, List, [], ◌∷◌, length, refl, ap, ◌∙◌, arith, eqb-true}
 use Rattle.std.specs.Prelude.{is_none, not, filter}
 use Rattle.isp_rnode.specs.declared.entry.Entry.{Entry}
 use Rattle.isp_rnode.specs.declared.entry.To.{To}
 use Rattle.isp_rnode.specs.declared.entry.To.TheVariants.{Child, Row}
 use Rattle.isp_rnode.specs.Lists.{Has, times}
-use Rattle.isp_rnode.specs.Tree.{Page, Tree, page_at, child_in, child_of, children}
+use Rattle.isp_rnode.specs.Tree.{Page, Tree, child_in, child_of}
 use Rattle.isp_rnode.specs.Forest.{Forest, IsBelow, IsPage}
 use Rattle.isp_rnode.specs.Walk.{Links}
 use Rattle.isp_machine.specs.Steps.{is_row, without, remove}
@@ -40,15 +40,15 @@ remove-fits tree number forest = record {
   kinds = λ q page e there h. (let is : IsPage tree q page = forest.each q page there in is.kinds e (had page e h));
   boxes = λ q page e there h. (let is : IsPage tree q page = forest.each q page there in is.boxes e (had page e h));
   filled = λ q page there inner. (let is : IsPage tree q page = forest.each q page there in
-    let same : filter (λ e. not (is_row number e.to)) page.entries ≡ page.entries = all_stay number page.entries (λ e h. is.kinds e h ∙ not_zero page.level inner) in
-    let n : length (filter (λ e. not (is_row number e.to)) page.entries) ≡ length page.entries = ap length same in
-    omega arith);
+      let same : filter (λ e. not (is_row number e.to)) page.entries ≡ page.entries = all_stay number page.entries (λ e h. is.kinds e h ∙ not_zero page.level inner) in
+      let n : length (filter (λ e. not (is_row number e.to)) page.entries) ≡ length page.entries = ap length same in
+      omega arith);
   level = λ p q a b e h has to k. (let is : IsBelow e a b = forest.below p q a b e h (had a e has) to k in is.level);
   inside = λ p q a b e g h has to k hg. (let is : IsBelow e a b = forest.below p q a b e h (had a e has) to k in is.inside g (had b g hg));
 }
   where
-  had : (page : Page) (e : Entry) → Has (filter (λ x. not (is_row number x.to)) page.entries) e → Has page.entries e
-  had page e h = Has-filter (λ x. not (is_row number x.to)) page.entries e h
+    had : (page : Page) (e : Entry) → Has (filter (λ x. not (is_row number x.to)) page.entries) e → Has page.entries e
+    had page e h = Has-filter (λ x. not (is_row number x.to)) page.entries e h
 
 pub remove_keeps : (tree : Tree) (number : ℕ) → Forest tree → Forest (remove tree number)
 remove_keeps tree number forest = forest-rounded tree (without number) (remove-still number) (remove-fits tree number forest) forest

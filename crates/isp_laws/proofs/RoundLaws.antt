@@ -1,14 +1,13 @@
 -- A step that changes the entries of all pages at once, and no level, number or right link of a page.
-use Rattle.std.proofs.Common.{◌≡◌, ◌⊎◌, inl, inr, ℕ, zero, suc, ◌+◌, ◌<◌, ◌≤◌, ◌==◌, Bool, true, false, cond, Option, Some, None, List, [], ◌∷◌, length, refl, ap, sym, ◌∙◌, arith, subst}
+use Rattle.std.proofs.Common.{◌≡◌, ℕ, suc, ◌+◌, ◌<◌, ◌≤◌, ◌==◌, true, cond, Option, Some, None, List, length, refl, ap, sym, ◌∙◌, arith, subst}
 use Rattle.std.specs.Prelude.{is_none, nat_lt}
 use Rattle.isp_mbr.specs.Boxes.{IsBox, covers}
 use Rattle.isp_rnode.specs.declared.entry.Entry.{Entry}
 use Rattle.isp_rnode.specs.Lists.{Has, times}
-use Rattle.isp_rnode.specs.Tree.{Page, Tree, page_in, page_at, counter, ssn_of, child_of, children, numbers, named}
+use Rattle.isp_rnode.specs.Tree.{Page, Tree, page_at, counter, ssn_of, child_of, children, numbers, named}
 use Rattle.isp_rnode.specs.Forest.{Forest, IsBelow, IsPage, IsLinked}
 use Rattle.isp_rnode.specs.Walk.{split_since, onward, right_of, link, Links}
 use Rattle.isp_machine.specs.Steps.{each}
-use Rattle.isp_machine.specs.Place.{Names}
 use Rattle.isp_laws.proofs.PageLaws.{Before, before, after_each, changed, page_in-each, numbers-each, named-each, total_none}
 use Rattle.isp_laws.proofs.WalkLaws.{links_same}
 
@@ -56,8 +55,8 @@ named-rounded tree f still r =
     let e : times r (named (each f tree.pages)) ≡ times r (named tree.pages) + _ = named-each f (λ q. 0) r (λ q page. still.kids r q page ∙ plus_none (times r (children page.entries))) tree.pages in
     omega (arith, e, total_none (numbers tree.pages))
   where
-  plus_none : (n : ℕ) → n ≡ n + 0
-  plus_none n = omega arith
+    plus_none : (n : ℕ) → n ≡ n + 0
+    plus_none n = omega arith
 
 pub links-rounded : (tree : Tree) (f : ℕ → Page → Page) → Still f → Links tree → Links (rounded tree f)
 links-rounded tree f still links = links_same tree (rounded tree f) (link-rounded tree f still) links
@@ -69,36 +68,37 @@ forest-rounded tree f still fits forest = record {
   alone = still.next tree.root forest.top ∙ forest.alone;
   once = λ q. subst (λ (ns : List ℕ). times q ns ≤ 1) (sym (numbers-each f tree.pages)) (forest.once q);
   by_one = λ q. (let e : times q (numbers (each f tree.pages)) ≡ times q (numbers tree.pages) = ap (times q) (numbers-each f tree.pages) in
-    omega (arith, e, named-rounded tree f still q, forest.by_one q));
+      omega (arith, e, named-rounded tree f still q, forest.by_one q));
   each = λ q page h. (let was : Before f tree.pages q page = before f tree.pages q page h in
-    subst (λ (x : Page). IsPage (rounded tree f) q x) was.is (page_of q was.old was.there));
+      subst (λ (x : Page). IsPage (rounded tree f) q x) was.is (page_of q was.old was.there));
   below = λ p q a b e h has to k. (let wa : Before f tree.pages p a = before f tree.pages p a h in
-    let wb : Before f tree.pages q b = before f tree.pages q b k in
-    let has' : Has (f p wa.old).entries e = subst (λ (x : Page). Has x.entries e) (sym wa.is) has in
-    subst (λ (x : Page). IsBelow e x b) wa.is (subst (λ (x : Page). IsBelow e (f p wa.old) x) wb.is (below_of p q wa.old wb.old e wa.there has' to wb.there)));
+      let wb : Before f tree.pages q b = before f tree.pages q b k in
+      let has' : Has (f p wa.old).entries e = subst (λ (x : Page). Has x.entries e) (sym wa.is) has in
+      subst (λ (x : Page). IsBelow e x b) wa.is (subst (λ (x : Page). IsBelow e (f p wa.old) x) wb.is (below_of p q wa.old wb.old e wa.there has' to wb.there)));
   linked = λ q r page h next. (let was : Before f tree.pages q page = before f tree.pages q page h in
-    let next' : was.old.next ≡ Some r = sym (still.next q was.old) ∙ ap (λ (x : Page). x.next) was.is ∙ next in
-    let is : IsLinked tree was.old r = forest.linked q r was.old was.there next' in
-    subst (λ (x : Page). IsLinked (rounded tree f) x r) was.is (record {
-      right = f r is.right;
-      there = after_each f tree.pages r is.right is.there;
-      level = still.level r is.right ∙ is.level ∙ sym (still.level q was.old);
-    }));
+      let next' : was.old.next ≡ Some r = sym (still.next q was.old) ∙ ap (λ (x : Page). x.next) was.is ∙ next in
+      let is : IsLinked tree was.old r = forest.linked q r was.old was.there next' in
+      subst (λ (x : Page). IsLinked (rounded tree f) x r) was.is (record {
+        right = f r is.right;
+        there = after_each f tree.pages r is.right is.there;
+        level = still.level r is.right ∙ is.level ∙ sym (still.level q was.old);
+      }));
 }
   where
-  page_of : (q : ℕ) (page : Page) → page_at tree q ≡ Some page → IsPage (rounded tree f) q (f q page)
-  page_of q page there =
-    let is : IsPage tree q page = forest.each q page there in
-    record {
-      kinds = λ e h. fits.kinds q page e there h ∙ ap (λ n. n == 0) (sym (still.level q page));
-      boxes = λ e h. fits.boxes q page e there h;
-      filled = λ h. (let h' : 0 < page.level = subst (λ (n : ℕ). 0 < n) (still.level q page) h in
-        let old : cond (q == tree.root) 1 2 ≤ length page.entries = is.filled h' in
-        omega (arith, fits.filled q page there h'));
-      numbered = omega (arith, still.ssn q page, is.numbered, counter-rounded tree f still);
+    page_of : (q : ℕ) (page : Page) → page_at tree q ≡ Some page → IsPage (rounded tree f) q (f q page)
+    page_of q page there =
+        let is : IsPage tree q page = forest.each q page there in
+        record {
+          kinds = λ e h. fits.kinds q page e there h ∙ ap (λ n. n == 0) (sym (still.level q page));
+          boxes = λ e h. fits.boxes q page e there h;
+          filled = λ h. (let h' : 0 < page.level = subst (λ (n : ℕ). 0 < n) (still.level q page) h in
+              let old : cond (q == tree.root) 1 2 ≤ length page.entries = is.filled h' in
+              omega (arith, fits.filled q page there h'));
+          numbered = omega (arith, still.ssn q page, is.numbered, counter-rounded tree f still);
+        }
+
+    below_of : (p q : ℕ) (a b : Page) (e : Entry) → page_at tree p ≡ Some a → Has (f p a).entries e → child_of e ≡ Some q → page_at tree q ≡ Some b → IsBelow e (f p a) (f q b)
+    below_of p q a b e h has to k = record {
+      level = still.level p a ∙ fits.level p q a b e h has to k ∙ ap suc (sym (still.level q b));
+      inside = λ g hg. fits.inside p q a b e g h has to k hg;
     }
-  below_of : (p q : ℕ) (a b : Page) (e : Entry) → page_at tree p ≡ Some a → Has (f p a).entries e → child_of e ≡ Some q → page_at tree q ≡ Some b → IsBelow e (f p a) (f q b)
-  below_of p q a b e h has to k = record {
-    level = still.level p a ∙ fits.level p q a b e h has to k ∙ ap suc (sym (still.level q b));
-    inside = λ g hg. fits.inside p q a b e g h has to k hg;
-  }

@@ -1,8 +1,8 @@
 -- Walks along right links: they end where right links do, and stay where the links and numbers of pages stay.
-use Rattle.std.proofs.Common.{◌≡◌, ◌⊎◌, inl, inr, ℕ, zero, suc, ◌+◌, ◌<◌, Bool, true, false, cond, Option, Some, None, List, [], ◌∷◌, refl, ap, sym, ◌∙◌, subst, arith}
+use Rattle.std.proofs.Common.{◌≡◌, ◌⊎◌, inl, inr, ℕ, zero, suc, ◌+◌, true, false, cond, Option, Some, None, List, [], ◌∷◌, refl, ap, sym, ◌∙◌, subst, arith}
 use Rattle.std.specs.Prelude.{nat_lt}
 use Rattle.isp_rnode.specs.Tree.{Page, Tree, page_at}
-use Rattle.isp_rnode.specs.Walk.{split_since, onward, IsWalk, right_of, link, EndsAfter, Links}
+use Rattle.isp_rnode.specs.Walk.{split_since, onward, IsWalk, right_of, link, EndsAfter, Links, Follows}
 
 pub walk_same : (old new : Tree) (s : ℕ) → ((p : ℕ) → onward old s p ≡ onward new s p) → (w : List ℕ) → IsWalk old s w → IsWalk new s w
 walk_same old new s same [] h = h
@@ -26,8 +26,8 @@ walk_ends tree s zero p h =
     elim (stops_or_links tree s p) [ inl stops ↦ record { rest = []; walk = stops } | inr links ↦ record { rest = []; walk = links ∙ h } ]
 walk_ends tree s (suc n) p h =
     elim (stops_or_links tree s p) [
-      inl stops ↦ record { rest = []; walk = stops }
-    | inr links ↦ (let w : Ending tree s h.0 = walk_ends tree s n h.0 h.2 in record { rest = h.0 ∷ w.rest; walk = (links ∙ h.1, w.walk) })
+      | inl stops ↦ record { rest = []; walk = stops }
+      | inr links ↦ (let w : Ending tree s h.0 = walk_ends tree s n h.0 h.2 in record { rest = h.0 ∷ w.rest; walk = (links ∙ h.1, w.walk) })
     ]
 
 -- ---- links that stay
@@ -43,10 +43,6 @@ links_same old new same links = record {
 }
 
 -- ---- right links never lead back to where one was
-
-abbrev pub Follows : Tree → ℕ → ℕ → ℕ → Type 0
-Follows tree zero p q = link tree p ≡ Some q
-Follows tree (suc n) p q = (r : ℕ) × (link tree p ≡ Some r) × Follows tree n r q
 
 record Later (tree : Tree) (n k q : ℕ) : Type 0 where
   left : ℕ
@@ -80,3 +76,14 @@ never_back tree links n p h =
     let e : (k : ℕ) × EndsAfter tree k p = links.ends p in
     let l : Later tree n e.0 p = ends_later tree n e.0 p p h e.1 in
     omega (arith, l.sum, ends_once tree e.0 l.left p e.1 l.ends)
+
+-- a page and a number have one walk
+pub walk_once : (tree : Tree) (s p : ℕ) (v w : List ℕ) → IsWalk tree s (p ∷ v) → IsWalk tree s (p ∷ w) → v ≡ w
+walk_once tree s p [] [] h k = refl
+walk_once tree s p [] (q ∷ w) h k = let a : onward tree s p ≡ Some q = k.0 in cc
+walk_once tree s p (q ∷ v) [] h k = let a : onward tree s p ≡ Some q = h.0 in cc
+walk_once tree s p (q ∷ v) (r ∷ w) h k =
+    let same : Some q ≡ Some r = sym h.0 ∙ k.0 in
+    let at : q ≡ r = cc in
+    let rest : v ≡ w = walk_once tree s r v w (subst (λ (x : ℕ). IsWalk tree s (x ∷ v)) at h.1) k.1 in
+    ap (λ x. x ∷ v) at ∙ ap (λ xs. r ∷ xs) rest

@@ -1,6 +1,6 @@
 -- A path down a tree, a division of a page, and the placing of an entry: it is added at the end of the path, and from the
 -- leaf up each page that overflows is split, the root after it was raised (Guttman 1984).
-use Rattle.std.specs.Prelude.{◌≡◌, ◌≢◌, ℕ, ℤ, ◌<◌, ◌≤◌, Option, Some, None, List, [], ◌∷◌, ◌++◌, length, reverse, IsPermutation}
+use Rattle.std.specs.Prelude.{◌≡◌, ℕ, ℤ, ◌<◌, ◌≤◌, Some, None, List, [], ◌∷◌, ◌++◌, length, reverse, IsPermutation}
 use Rattle.isp_mbr.specs.Corners.{Corners}
 use Rattle.isp_rnode.specs.declared.entry.Entry.{Entry}
 use Rattle.isp_rnode.specs.Lists.{Has}

@@ -5,7 +5,7 @@ use Rattle.isp_mbr.specs.declared.predicate.Predicate.{Predicate}
 use Rattle.isp_rnode.specs.declared.entry.Entry.{Entry}
 use Rattle.isp_rnode.specs.declared.entry.To.TheVariants.{Row}
 use Rattle.isp_rnode.specs.Lists.{Has}
-use Rattle.isp_rnode.specs.Tree.{Page, Tree, page_at, counter, child_of}
+use Rattle.isp_rnode.specs.Tree.{Page, Tree, page_at, counter}
 use Rattle.isp_rnode.specs.Walk.{IsWalk}
 use Rattle.isp_machine.specs.Place.{Names}
 

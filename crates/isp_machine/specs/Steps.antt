@@ -2,7 +2,7 @@
 -- grow (Guttman 1984), an overflowing root is raised, an overflowing page is split with the exchange of sequence numbers
 -- and right links by which a search finds the new page (Kornacker, Mohan and Hellerstein 1997), an entry is removed.
 -- Which pages an insert divides, and how, is free: the code's choices are no part of this.
-use Rattle.std.specs.Prelude.{ℕ, suc, ℤ, ◌==◌, Bool, true, false, not, cond, Option, Some, None, List, [], ◌∷◌, ◌++◌, map, filter}
+use Rattle.std.specs.Prelude.{ℕ, suc, ℤ, ◌==◌, Bool, false, not, cond, Option, Some, None, List, [], ◌∷◌, ◌++◌, map, filter}
 use Rattle.std.specs.List.{list_any}
 use Rattle.isp_mbr.specs.Corners.{Corners}
 use Rattle.isp_mbr.specs.Boxes.{union}

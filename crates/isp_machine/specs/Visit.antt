@@ -1,7 +1,7 @@
 -- One visit of a search: the page that it remembers last is taken off its stack. Where the page was split since, its right
 -- link is remembered with the same number. Where the search is new to the page, it is attached to it, and then
 -- remembers the children that may hold its predicate, or finds the keys that satisfy it (Kornacker, Mohan and Hellerstein 1997).
-use Rattle.std.specs.Prelude.{ℕ, ℤ, nat_lt, ◌==◌, Bool, cond, Option, Some, None, List, [], ◌∷◌, ◌++◌}
+use Rattle.std.specs.Prelude.{ℕ, ℤ, ◌==◌, cond, Option, Some, None, List, [], ◌∷◌, ◌++◌}
 use Rattle.isp_mbr.specs.Predicates.{satisfies, may_hold}
 use Rattle.isp_mbr.specs.declared.predicate.Predicate.{Predicate}
 use Rattle.isp_rnode.specs.declared.entry.Entry.{Entry}

@@ -1,6 +1,6 @@
 -- When the pages of a tree fit together. It holds of a tree whose page has just been split as of one at rest, and has no
 -- bound on the entries of a page, so that it holds between the small steps of an insert too.
-use Rattle.std.specs.Prelude.{◌≡◌, ℕ, suc, ◌<◌, ◌≤◌, ◌==◌, true, cond, Option, Some, None, is_none, List, ◌∷◌, length}
+use Rattle.std.specs.Prelude.{◌≡◌, ℕ, suc, ◌<◌, ◌≤◌, ◌==◌, true, cond, Some, None, is_none, ◌∷◌, length}
 use Rattle.isp_mbr.specs.Boxes.{IsBox, covers}
 use Rattle.isp_rnode.specs.declared.entry.Entry.{Entry}
 use Rattle.isp_rnode.specs.Lists.{Has, times}

@@ -1,5 +1,5 @@
 -- Words on lists that the definitions of trees are written in: what stands on a list, and how often.
-use Rattle.std.specs.Prelude.{◌≡◌, ◌⊎◌, ℕ, ◌+◌, ◌==◌, Bool, cond, List, [], ◌∷◌}
+use Rattle.std.specs.Prelude.{◌≡◌, ◌⊎◌, ℕ, ◌+◌, ◌==◌, cond, List, [], ◌∷◌}
 
 -- x stands on the list
 abbrev pub Has : {X : Type 0} → List X → X → Type 0

@@ -1,12 +1,11 @@
 -- An R-tree as its pages (Guttman 1984), each with the sequence number and the right link by which a reader can tell
 -- that it was split (Kornacker, Mohan and Hellerstein 1997). Nothing here says that the pages fit together: `Forest` does.
-use Rattle.std.specs.Prelude.{◌≡◌, ℕ, ◌==◌, Bool, cond, Option, Some, None, List, [], ◌∷◌, ◌++◌, filter_map, pos}
+use Rattle.std.specs.Prelude.{ℕ, ◌==◌, cond, Option, Some, None, List, [], ◌∷◌, ◌++◌, filter_map, pos}
 use Rattle.isp_mbr.specs.Corners.{Corners}
 use Rattle.isp_mbr.specs.Boxes.{union}
 use Rattle.isp_rnode.specs.declared.entry.Entry.{Entry}
 use Rattle.isp_rnode.specs.declared.entry.To.{To}
 use Rattle.isp_rnode.specs.declared.entry.To.TheVariants.{Child, Row}
-use Rattle.isp_rnode.specs.Lists.{Has}
 
 -- a page: its level, 0 at a leaf; its sequence number; its right link; its entries
 pub record Page : Type 0 where

@@ -1,7 +1,8 @@
 -- What a remembered page and sequence number lead to (Kornacker, Mohan and Hellerstein 1997): a page whose number is
 -- greater than the remembered one was split since, and what it had then stands on it and on the pages to its right.
-use Rattle.std.specs.Prelude.{◌≡◌, ℕ, ◌+◌, zero, suc, nat_lt, cond, Option, Some, None, List, [], ◌∷◌}
+use Rattle.std.specs.Prelude.{◌≡◌, ℕ, zero, suc, nat_lt, cond, Option, Some, None, List, [], ◌∷◌}
 use Rattle.isp_rnode.specs.Tree.{Page, Tree, page_at}
+use Rattle.isp_rnode.specs.Forest.{Forest}
 
 -- the right link of a page that was split since s
 abbrev pub split_since : ℕ → Option Page → Option ℕ
@@ -35,3 +36,13 @@ EndsAfter tree (suc n) p = (q : ℕ) × (link tree p ≡ Some q) × EndsAfter tr
 pub record Links (tree : Tree) : Type 0 where
   pub apart : (p q r : ℕ) → link tree p ≡ Some r → link tree q ≡ Some r → p ≡ q
   pub ends : (p : ℕ) → (n : ℕ) × EndsAfter tree n p
+
+-- one right link more than n lead from page p to page q
+abbrev pub Follows : Tree → ℕ → ℕ → ℕ → Type 0
+Follows tree zero p q = link tree p ≡ Some q
+Follows tree (suc n) p q = (r : ℕ) × (link tree p ≡ Some r) × Follows tree n r q
+
+-- a tree whose pages fit together, and whose right links can be followed
+pub record LinkedForest (tree : Tree) : Type 0 where
+  pub forest : Forest tree
+  pub links : Links tree
