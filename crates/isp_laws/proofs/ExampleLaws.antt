@@ -4,6 +4,7 @@ use Rattle.isp_rnode.specs.Lists.{Has}
 use Rattle.isp_rnode.specs.Tree.{numbers}
 use Rattle.isp_rnode.specs.Walk.{LinkedForest}
 use Rattle.isp_laws.specs.Examples.{four_points, five_points, seven_points, ExamplesFit, numbers_exchanged, right_link_lost, WrongSplitsMiss}
+use Rattle.isp_laws.specs.SearchExamples.{SearchesFit}
 use Rattle.isp_laws.proofs.CheckLaws.{forest_by_tests, links_by_tests, once_by_test}
 use Rattle.isp_laws.proofs.WalkLaws.{walk_once}
 
@@ -50,4 +51,20 @@ pub wrong_splits_miss : WrongSplitsMiss
 wrong_splits_miss = record {
   exchanged = λ w walk h. exchanged_misses w (walk_once (numbers_exchanged seven_points 19 21) 1 19 [] w refl walk) h;
   lost = λ w walk h. lost_misses w (walk_once (right_link_lost seven_points 21) 0 19 (21 ∷ []) w (refl, refl) walk) h;
+}
+
+pub searches_fit : SearchesFit
+searches_fit = record {
+  begins = refl;
+  root = refl;
+  overtaken = refl;
+  old_page = refl;
+  new_page = refl;
+  again = refl;
+  copied = refl;
+  raised = refl;
+  raised_both = refl;
+  percolating = refl;
+  not_percolating = refl;
+  let_in_there = refl;
 }

@@ -4,7 +4,7 @@
 mod examples;
 mod trees;
 
-pub use examples::{law_examples_fit, law_wrong_splits_miss};
+pub use examples::{law_examples_fit, law_searches_fit, law_wrong_splits_miss};
 pub use trees::{
     law_add_keeps, law_boxes_on_the_way, law_links_never_lead_back, law_place_keeps,
     law_raise_keeps, law_remove_keeps, law_root_is_alone, law_split_keeps, law_walks_after_split,
