@@ -1,0 +1,14 @@
+pub mod ListLaws
+pub mod PageLaws
+pub mod EntryLaws
+pub mod ForestLaws
+pub mod WalkLaws
+pub mod RoundLaws
+pub mod RemoveLaws
+pub mod AddLaws
+pub mod RaiseLaws
+pub mod SplitLaws
+pub mod SplitWalkLaws
+pub mod PlaceLaws
+pub mod CheckLaws
+pub mod ExampleLaws

@@ -1,0 +1,5 @@
+pub mod Attach
+pub mod Place
+pub mod Search
+pub mod Steps
+pub mod Visit

@@ -1,0 +1,6 @@
+//! Pages of a file, and what names them.
+#![tactic(auto)]
+
+/// The number of a page, counted from the start of the file.
+#[derive(Clone, Copy, Debug, PartialEq, Eq)]
+pub struct PageNo(pub u32);

@@ -1,0 +1,4 @@
+pub mod Forest
+pub mod Lists
+pub mod Tree
+pub mod Walk
