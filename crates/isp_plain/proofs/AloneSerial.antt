@@ -6,7 +6,7 @@ use Rattle.std.specs.Option.{option_map}
 use Rattle.std.proofs.lemmas.List.Elements.{All-cons, All-append}
 use Rattle.isp_plain.specs.declared.script.Script.{Script}
 use Rattle.isp_plain.specs.declared.script.Session.{Session}
-use Rattle.isp_plain.specs.Alone.{turn_of, answer_with, answer_to, answers_to, tables_after, session_answers, sessions_answers, sessions_after, run_answers, run_after, IsAlone}
+use Rattle.isp_plain.specs.Alone.{turn_of, answer_with, answer_to, answers_to, tables_after, session_answers, sessions_answers, sessions_after, run_answers, run_after, AreSmall, IsAlone}
 use Rattle.isp_plain.specs.Answers.{Answer, Fits, NeverFalls, is_end, is_full, is_deadlock}
 use Rattle.isp_plain.specs.Script.{texts_of}
 use Rattle.isp_plain.specs.Serial.{Serial, EndsAll, none_pending, done}
@@ -106,11 +106,6 @@ plain_end session number known small = record {
     shown = record { turn = turn_small session number small; session = known; number = small; text = end_line };
     turn = refl; not_full = (end_not session number).0; not_deadlock = (end_not session number).1;
   }
-
--- sessions with fewer texts than 64 bits count
-abbrev pub AreSmall : List Session → Type 0
-AreSmall [] = Unit {0}
-AreSmall (session ∷ sessions) = (session.number < 2 ^ 64) × (length session.texts + 1 < 2 ^ 64) × AreSmall sessions
 
 plain_sessions : (language : Language) → IsPlainLanguage language → (sessions : List Session) (tables : List Table) → AreSmall sessions →
     All IsPlainAnswer (sessions_answers language sessions tables)

@@ -1,6 +1,6 @@
 -- Sessions that run one after another, outside of transactions: each statement is answered by itself, on the tables that
 -- the one before it left.
-use Rattle.std.specs.Prelude.{◌≡◌, ℕ, ◌+◌, ◌==◌, true, false, List, [], ◌∷◌, ◌++◌, length, if◌then◌else◌}
+use Rattle.std.specs.Prelude.{◌≡◌, ℕ, ◌<◌, ◌^◌, ◌+◌, ◌==◌, true, false, List, [], ◌∷◌, ◌++◌, length, if◌then◌else◌}
 use Rattle.isp_plain.specs.declared.script.Script.{Script}
 use Rattle.isp_plain.specs.declared.script.Session.{Session}
 use Rattle.isp_plain.specs.Answers.{Answer}
@@ -61,3 +61,8 @@ abbrev pub IsAlone : List Session → Type 0
 IsAlone [] = Unit {0}
 IsAlone (session ∷ []) = (session.number == 0) ≡ false
 IsAlone (session ∷ other ∷ sessions) = ⊥
+
+-- sessions with fewer texts than 64 bits count
+abbrev pub AreSmall : List Session → Type 0
+AreSmall [] = Unit {0}
+AreSmall (session ∷ sessions) = (session.number < 2 ^ 64) × (length session.texts + 1 < 2 ^ 64) × AreSmall sessions

@@ -1,11 +1,13 @@
 -- What a statement answers and leaves on plain tables, as the MySQL 8.0 manual has these statements.
 use Rattle.std.specs.Prelude.{ℕ, ℤ, pos, Bool, true, false, List, [], ◌∷◌, ◌++◌, ◌&&◌, length, map, filter, slice_get, slice_set, Some, None, Option}
 use Rattle.std.specs.List.{list_all, filter_map, position}
+use Rattle.std.specs.Option.{option_map}
 use Rattle.std.specs.Str.{bytes_eq}
 use Rattle.std.specs.Map.{values_of}
 use Rattle.isp_mbr.specs.Predicates.{satisfies}
 use Rattle.isp_mbr.specs.declared.Predicate.{Predicate}
 use Rattle.isp_plain.specs.declared.value.Row.{Row}
+use Rattle.isp_plain.specs.declared.value.Schema.{Schema}
 use Rattle.isp_plain.specs.declared.value.Value.{Value}
 use Rattle.isp_plain.specs.declared.value.Value.TheVariants.{Int, Geo}
 use Rattle.isp_plain.specs.declared.statement.Atom.{Atom}
@@ -62,6 +64,10 @@ table_at tables None = None
 
 abbrev pub table_named : List Table → List ℕ → Option Table
 table_named tables name = table_at tables (place_of tables name)
+
+-- the name and the columns of the table at a place
+abbrev pub definition_at : List Table → ℕ → Option (List ℕ × Schema)
+definition_at tables place = option_map (λ table. (table.name, table.schema)) (slice_get tables place)
 
 -- all of the rows where no key stands twice, else none
 abbrev pub insert_reply : List Row → Option ℤ → Reply

@@ -48,6 +48,14 @@ impl Held {
         self.name.as_slice() == name.as_slice()
     }
 
+    /// Its name and its columns.
+    pub fn definition(&self) -> (&Name, &Schema)
+        ensures name { result.0.now ≡ self.now.name }
+        ensures schema { result.1.now ≡ self.now.schema }
+    {
+        (&self.name, &self.schema)
+    }
+
     /// Adds copies of the rows, or none where a key is there already or stands in them twice. Want of memory leaves the
     /// table as it was.
     pub fn insert(&mut self, alloc: Global, rows: &[Row]) -> Result<Reply, AllocError>

@@ -1,7 +1,8 @@
 //! Plain tables in memory.
 
 ghost use Rattle.std.specs.Prelude.{◌≡◌, [], ◌∷◌, ◌++◌, ◌<◌, length, IfOk, OnOk, OnErr};
-ghost use Rattle.isp_plain.specs.Does.{does, insert_in, place_of, select_reply, table_named, no_such_table};
+ghost use Rattle.std.specs.Option.{option_map};
+ghost use Rattle.isp_plain.specs.Does.{definition_at, does, insert_in, place_of, select_reply, table_named, no_such_table};
 
 use crate::held::Held;
 use crate::{Condition, Reply, Row, Schema, Statement};
@@ -63,6 +64,16 @@ impl Plain {
         let table = Held::new(self.alloc, name.copy(self.alloc)?, schema.copy(self.alloc)?);
         self.tables.push(table)?;
         Ok(())
+    }
+
+    /// The name and the columns of the table at a place, counted from 0 in the order in which they were added.
+    pub fn definition(&self, place: usize) -> Option<(&Name, &Schema)>
+        ensures { option_map (λ d. (d.0.now, d.1.now)) result ≡ definition_at self.now place }
+    {
+        match self.tables.get(place) {
+            Some(table) => Some(table.definition()),
+            None => None,
+        }
     }
 
     // The place of the table of that name.
