@@ -1,0 +1,15 @@
+-- Why a call ended before its end: a fault whose count rose, or want of memory.
+use Rattle.std.specs.Prelude.{◌≡◌, ℕ, ◌≤◌, Result, IfErr}
+use Rattle.isp_disk.specs.Outside.{Rose}
+use Rattle.isp_run.specs.declared.stop.Stop.{Stop}
+use Rattle.isp_run.specs.declared.stop.Stop.TheVariants.{Fault, Memory}
+
+-- a fault only where the count rose; want of memory is free
+abbrev pub IsCaused : ℕ → ℕ → Stop → Type 0
+IsCaused before now Fault = Rose before now
+IsCaused before now Memory = Unit {0}
+
+-- after a step of a run: the count of faults never fell, and where the run stopped, its cause is there
+pub record HasStops {T : Type 0} (before now : ℕ) (result : Result T Stop) : Type 0 where
+  pub later : before ≤ now
+  pub cause : IfErr result (IsCaused before now)

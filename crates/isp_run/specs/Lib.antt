@@ -1,0 +1,4 @@
+pub mod Causes
+pub mod Ending
+pub mod Ran
+pub mod Words

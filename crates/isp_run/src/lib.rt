@@ -1,0 +1,67 @@
+//! The top call: the words and the script are read, the script is run, and its answers are printed.
+#![tactic(auto)]
+
+ghost use Rattle.std.specs.Prelude.{◌≡◌, ◌↔◌, ℕ, false, [], None, IfSome, IsSome, map, string_bytes};
+ghost use Rattle.isp_disk.specs.Outside.{Rose};
+ghost use Rattle.isp_sql.specs.Reading.{script_of};
+ghost use Rattle.isp_run.specs.Ran.{IsQuiet, IsRead, RanOf};
+ghost use Rattle.isp_run.specs.Words.{is_run};
+
+mod input;
+mod play;
+mod read;
+mod status;
+mod stop;
+mod words;
+
+pub use status::Status;
+
+use isp_disk::{Source, World};
+use play::play;
+use read::read_script;
+use std::alloc::Global;
+use stop::Stop;
+use words::is_run;
+
+/// Runs the command of the words: `FILE run` reads a script from the source to its end, runs it, and prints a line for
+/// each answer. FILE is a name alone for now: nothing is opened or kept.
+///
+/// The statuses are tested in this order: the words (`Usage`), the source (`ReadFault`), the script (`BadScript`), the
+/// printing (`PrintFault`); want of memory may come at any place. The world comes back with each of them.
+pub fn run<S: Source, W: World>(
+    alloc: Global,
+    words: &[String],
+    script: &mut S,
+    world: W,
+) -> (Status, W)
+    // The words alone say whether it is `Usage`.
+    ensures usage { (result.0 ≡ Status.Usage) ↔ (is_run (map string_bytes words.now) ≡ false) }
+
+    // The headline: what was printed is the lines of answers to the script, and these are serial.
+    ensures serial { result.0 ≡ Status.Done → IfSome (S.left script.old) (λ bytes. IfSome (W.printed world) (λ before. RanOf (script_of bytes) before (W.printed result.1))) }
+    ensures end { result.0 ≡ Status.Done → IfSome (S.left script.new) (λ rest. rest ≡ []) }
+
+    // Each other status has its cause.
+    ensures bad { (line : ℕ) → result.0 ≡ Status.BadScript line → (line ≡ 0) × IfSome (S.left script.old) (λ bytes. script_of bytes ≡ None) }
+    ensures good { IsRead result.0 → IfSome (S.left script.old) (λ bytes. IsSome (script_of bytes)) }
+    ensures read_fault { result.0 ≡ Status.ReadFault → Rose (S.faults script.old) (S.faults script.new) }
+    ensures print_fault { result.0 ≡ Status.PrintFault → Rose (W.print_faults world) (W.print_faults result.1) }
+
+    // Nothing is printed before the script was read.
+    ensures quiet { IsQuiet result.0 → W.printed result.1 ≡ W.printed world }
+{
+    let mut world = world;
+    if !is_run(words) {
+        return (Status::Usage, world);
+    }
+    match read_script(alloc, script) {
+        Ok(Some(read)) => match play(alloc, &read, &mut world) {
+            Ok(()) => (Status::Done, world),
+            Err(Stop::Fault) => (Status::PrintFault, world),
+            Err(Stop::Memory) => (Status::OutOfMemory, world),
+        },
+        Ok(None) => (Status::BadScript { line: 0 }, world),
+        Err(Stop::Fault) => (Status::ReadFault, world),
+        Err(Stop::Memory) => (Status::OutOfMemory, world),
+    }
+}

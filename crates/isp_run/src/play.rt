@@ -1,0 +1,177 @@
+//! A script that is run on plain tables in memory: the setup, and then the session.
+
+ghost use Rattle.std.specs.Prelude.{◌≡◌, ◌+◌, ◌<◌, ◌^◌, false, length, OnOk, IfOk};
+ghost use Rattle.std.specs.List.{flat_map};
+ghost use Rattle.isp_disk.specs.Outside.{told_behind};
+ghost use Rattle.isp_plain.specs.Alone.{answer_to, answer_with, answers_to, run_answers, session_answers, sessions_answers, tables_after, turn_of, AreSmall};
+ghost use Rattle.isp_plain.specs.Serial.{done, place_at};
+ghost use Rattle.isp_plain.specs.Spelling.{line_of};
+ghost use Rattle.isp_plain.specs.Texts.{reply_text};
+ghost use Rattle.isp_sql.specs.Meaning.{narrow};
+ghost use Rattle.isp_run.specs.Causes.{HasStops};
+
+use crate::stop::Stop;
+use isp_disk::World;
+use isp_mbr::Bytes;
+use isp_plain::{Place, Plain, Reply, Script, Session};
+use isp_sql::bind;
+use isp_text::answer_line;
+use std::alloc::{AllocError, Global};
+
+/// Where a statement of the session stands. No transaction is built yet.
+fn place_of(session: u32) -> Place
+    ensures { result ≡ place_at session false }
+{
+    if session == 0 {
+        Place::Setup
+    } else {
+        Place::Session
+    }
+}
+
+// The setup has turn 0 throughout, and a session's turn is the statement's number.
+fn turn_of(session: u32, number: u64) -> u64
+    ensures { result ≡ turn_of session number }
+{
+    if session == 0 { 0 } else { number }
+}
+
+// What the text does on the tables.
+#[tactic(auto, unfolding(isp_sql::specs::Meaning::narrow))]
+fn do_text(
+    alloc: Global,
+    tables: &mut Plain,
+    session: u32,
+    text: &Bytes,
+) -> Result<Reply, AllocError>
+    ensures reply { IfOk result (λ reply. reply ≡ (done narrow tables.old session false text.now).reply) }
+    ensures tables { OnOk result (tables.new ≡ (done narrow tables.old session false text.now).tables) }
+{
+    let statement = bind(alloc, tables, place_of(session), text.as_slice())?;
+    let reply = tables.run(&statement)?;
+    Ok(reply)
+}
+
+fn print<W: World>(world: &mut W, bytes: &[u8]) -> Result<(), Stop>
+    ensures told { OnOk result (W.printed world.new ≡ told_behind (W.printed world.old) bytes.now) }
+    ensures cause { HasStops (W.print_faults world.old) (W.print_faults world.new) result }
+{
+    match world.print(bytes) {
+        Ok(()) => Ok(()),
+        Err(_) => Err(Stop::Fault),
+    }
+}
+
+// Prints the line of an answer.
+fn print_answer<W: World>(
+    alloc: Global,
+    world: &mut W,
+    session: u32,
+    number: u64,
+    reply: &Reply,
+) -> Result<(), Stop>
+    ensures told { OnOk result (W.printed world.new ≡ told_behind (W.printed world.old) (line_of (answer_with session number (reply_text reply.now)))) }
+    ensures cause { HasStops (W.print_faults world.old) (W.print_faults world.new) result }
+{
+    let line = answer_line(
+        alloc,
+        turn_of(session, number),
+        u64::from(session),
+        number,
+        reply,
+    )?;
+    print(world, line.as_slice())
+}
+
+// Answers one text of the session.
+fn answer<W: World>(
+    alloc: Global,
+    tables: &mut Plain,
+    world: &mut W,
+    session: u32,
+    number: u64,
+    text: &Bytes,
+) -> Result<(), Stop>
+    ensures told { OnOk result (W.printed world.new ≡ told_behind (W.printed world.old) (line_of (answer_to narrow session number text.now tables.old))) }
+    ensures tables { OnOk result (tables.new ≡ (done narrow tables.old session false text.now).tables) }
+    ensures cause { HasStops (W.print_faults world.old) (W.print_faults world.new) result }
+{
+    let reply = do_text(alloc, tables, session, text)?;
+    print_answer(alloc, world, session, number, &reply)?;
+    Ok(())
+}
+
+// Answers the session's texts, one after another.
+fn answer_texts<W: World>(
+    alloc: Global,
+    tables: &mut Plain,
+    world: &mut W,
+    session: u32,
+    texts: &[Bytes],
+) -> Result<(), Stop>
+    ensures told { OnOk result (W.printed world.new ≡ told_behind (W.printed world.old) (flat_map line_of (answers_to narrow session 1 texts.now tables.old))) }
+    ensures tables { OnOk result (tables.new ≡ tables_after narrow session texts.now tables.old) }
+    ensures cause { HasStops (W.print_faults world.old) (W.print_faults world.new) result }
+{
+    for (i, text) in texts.iter().enumerate() {
+        answer(alloc, tables, world, session, i as u64 + 1, text)?;
+    }
+    Ok(())
+}
+
+// The number of the answer behind the last text's.
+fn end_number(texts: &[Bytes]) -> u64
+    ensures value { result ≡ length texts.now + 1 }
+    ensures small { length texts.now + 1 < 2 ^ 64 }
+{
+    texts.len() as u64 + 1
+}
+
+// Answers a session, and tells its end.
+fn answer_session<W: World>(
+    alloc: Global,
+    tables: &mut Plain,
+    world: &mut W,
+    session: &Session,
+) -> Result<(), Stop>
+    ensures told { OnOk result (W.printed world.new ≡ told_behind (W.printed world.old) (flat_map line_of (session_answers narrow session.now tables.old))) }
+    ensures tables { OnOk result (tables.new ≡ tables_after narrow session.now.number session.now.texts tables.old) }
+    ensures small { OnOk result ((session.now.number < 2 ^ 64) × (length session.now.texts + 1 < 2 ^ 64)) }
+    ensures cause { HasStops (W.print_faults world.old) (W.print_faults world.new) result }
+{
+    let number = session.number;
+    let texts = session.texts.as_slice();
+    answer_texts(alloc, tables, world, number, texts)?;
+    print_answer(alloc, world, number, end_number(texts), &Reply::End)?;
+    Ok(())
+}
+
+fn answer_sessions<W: World>(
+    alloc: Global,
+    tables: &mut Plain,
+    world: &mut W,
+    sessions: &[Session],
+) -> Result<(), Stop>
+    ensures told { OnOk result (W.printed world.new ≡ told_behind (W.printed world.old) (flat_map line_of (sessions_answers narrow sessions.now tables.old))) }
+    ensures small { OnOk result (AreSmall sessions.now) }
+    ensures cause { HasStops (W.print_faults world.old) (W.print_faults world.new) result }
+{
+    for session in sessions {
+        answer_session(alloc, tables, world, session)?;
+    }
+    Ok(())
+}
+
+/// Answers the setup and then the sessions, from no tables, and prints each answer's line.
+pub fn play<W: World>(alloc: Global, script: &Script, world: &mut W) -> Result<(), Stop>
+    ensures told { OnOk result (W.printed world.new ≡ told_behind (W.printed world.old) (flat_map line_of (run_answers narrow script.now))) }
+    ensures small { OnOk result ((length script.now.setup + 1 < 2 ^ 64) × AreSmall script.now.sessions) }
+    ensures cause { HasStops (W.print_faults world.old) (W.print_faults world.new) result }
+{
+    let mut tables = Plain::new(alloc);
+    let setup = script.setup.as_slice();
+    let _end = end_number(setup);
+    answer_texts(alloc, &mut tables, world, 0, setup)?;
+    answer_sessions(alloc, &mut tables, world, script.sessions.as_slice())?;
+    Ok(())
+}
