@@ -1,19 +1,19 @@
 -- The answers of a setup, and of one session that runs after it, fit the script.
-use Rattle.std.proofs.Common.{◌≡◌, ℕ, suc, ◌<◌, ◌≤◌, ◌+◌, Bool, true, false, cond, ◌||◌, ◌==◌, List, [], ◌∷◌, ◌++◌, length, map, refl, ap, ◌∙◌, sym, subst, arith, Option, Some, None, if◌then◌else◌, ◌⊎◌, inl, inr, append-nil, length-append}
-use Rattle.std.specs.Prelude.{All, ◌↔◌}
+use Rattle.std.proofs.Common.{◌≡◌, ℕ, ◌+◌, Bool, true, false, cond, ◌==◌, List, [], ◌∷◌, ◌++◌, length, refl, ap, ◌∙◌, sym, subst, arith, Option, Some, None, if◌then◌else◌, ◌⊎◌, inl, inr, append-nil, length-append}
+use Rattle.std.specs.Prelude.{◌↔◌}
 use Rattle.std.specs.List.{find}
 use Rattle.std.specs.Option.{option_map}
 use Rattle.std.proofs.lemmas.Bool.Decides.{nat_tests}
 use Rattle.std.proofs.lemmas.List.{map-append}
 use Rattle.std.proofs.lemmas.List.Elements.{All-cons, All-append, filter-append}
 use Rattle.isp_plain.specs.declared.script.Session.{Session}
-use Rattle.isp_plain.specs.Alone.{answer_with, answer_to, answers_to, tables_after, session_answers, sessions_answers, IsAlone}
-use Rattle.isp_plain.specs.Answers.{Answer, FitsSession, FitsTexts, NeverFalls, answers_of, counted_from, is_end, is_full, is_deadlock}
+use Rattle.isp_plain.specs.Alone.{answer_with, answers_to, session_answers, sessions_answers, IsAlone}
+use Rattle.isp_plain.specs.Answers.{Answer, FitsSession, FitsTexts, answers_of, counted_from, is_end}
 use Rattle.isp_plain.specs.Script.{answers_due}
 use Rattle.isp_plain.specs.Tables.{Table}
 use Rattle.isp_plain.specs.Texts.{end_text}
 use Rattle.isp_plain.specs.Transactions.{Language}
-use Rattle.isp_plain.proofs.AloneLaws.{IsPlainLanguage, length-answers_to, numbers-answers_to, counted_from-append, of_its_own, of_none, of_other, of_same, no_ends, if_so, if_else, same_number}
+use Rattle.isp_plain.proofs.AloneLaws.{IsPlainLanguage, length-answers_to, numbers-answers_to, counted_from-append, of_its_own, of_none, of_other, of_same, no_ends, if_so, if_else}
 
 end_is_end : (session number : ℕ) → is_end (answer_with session number end_text) ≡ true
 unfolding end_text
@@ -47,8 +47,8 @@ session_fits language is_plain whole session tables is =
       ends = All-append (λ a. (is_end a ≡ true) ↔ (a.number ≡ length texts + 1)) said (last ∷ [])
           (no_ends language is_plain session.number 1 (length texts + 1) texts tables (omega arith))
           (All-cons (λ a. (is_end a ≡ true) ↔ (a.number ≡ length texts + 1)) last []
-            ((λ _. refl), (λ _. end_is_end session.number (length texts + 1)))
-            (λ k d inside. absurd (omega arith)));
+          ((λ _. refl), (λ _. end_is_end session.number (length texts + 1)))
+          (λ k d inside. absurd (omega arith)));
       all = λ _. all ∙ due;
     }
 
@@ -74,9 +74,9 @@ of_session language session tables k is =
     let said = answers_to language session.number 1 session.texts tables in
     let last = answer_with session.number (length session.texts + 1) end_text in
     subst (λ n. answers_of n (said ++ last ∷ []) ≡ said ++ last ∷ []) same
-      (filter-append (λ a. a.session == session.number) said (last ∷ [])
-      ∙ (ap (λ kept. kept ++ answers_of session.number (last ∷ [])) (of_its_own language session.number 1 session.texts tables)
-      ∙ ap (λ kept. said ++ kept) (of_same session.number last [] [] refl refl)))
+    (filter-append (λ a. a.session == session.number) said (last ∷ [])
+    ∙ (ap (λ kept. kept ++ answers_of session.number (last ∷ [])) (of_its_own language session.number 1 session.texts tables)
+    ∙ ap (λ kept. said ++ kept) (of_same session.number last [] [] refl refl)))
 
 not_of_session : (language : Language) (session : Session) (tables : List Table) (k : ℕ) → (session.number == k) ≡ false →
     answers_of k (session_answers language session tables) ≡ []
@@ -84,22 +84,22 @@ not_of_session language session tables k is =
     let said = answers_to language session.number 1 session.texts tables in
     let last = answer_with session.number (length session.texts + 1) end_text in
     filter-append (λ a. a.session == k) said (last ∷ [])
-      ∙ (ap (λ kept. kept ++ answers_of k (last ∷ [])) (of_none language session.number k 1 session.texts tables is)
-      ∙ of_other k last [] [] is refl)
+    ∙ (ap (λ kept. kept ++ answers_of k (last ∷ [])) (of_none language session.number k 1 session.texts tables is)
+    ∙ of_other k last [] [] is refl)
 
 -- the answers of the setup among those of all
 of_setup : (language : Language) (setup : List (List ℕ)) (others : List Answer) → answers_of 0 others ≡ [] →
     answers_of 0 (answers_to language 0 1 setup [] ++ others) ≡ answers_to language 0 1 setup []
 of_setup language setup others none =
     filter-append (λ a. a.session == 0) (answers_to language 0 1 setup []) others
-      ∙ (ap (λ kept. answers_of 0 (answers_to language 0 1 setup []) ++ kept) none
-      ∙ (append-nil (answers_of 0 (answers_to language 0 1 setup [])) ∙ of_its_own language 0 1 setup []))
+    ∙ (ap (λ kept. answers_of 0 (answers_to language 0 1 setup []) ++ kept) none
+    ∙ (append-nil (answers_of 0 (answers_to language 0 1 setup [])) ∙ of_its_own language 0 1 setup []))
 
 behind_setup : (language : Language) (setup : List (List ℕ)) (others : List Answer) (k : ℕ) → (k == 0) ≡ false →
     answers_of k (answers_to language 0 1 setup [] ++ others) ≡ answers_of k others
 behind_setup language setup others k is =
     filter-append (λ a. a.session == k) (answers_to language 0 1 setup []) others
-      ∙ ap (λ kept. kept ++ answers_of k others) (of_none language 0 k 1 setup [] (other_way k 0 is))
+    ∙ ap (λ kept. kept ++ answers_of k others) (of_none language 0 k 1 setup [] (other_way k 0 is))
 
 -- the setup's answers
 fits_setup : (language : Language) → IsPlainLanguage language → (whole : Bool) (setup : List (List ℕ)) (sessions : List Session) (others : List Answer) (k : ℕ) →
@@ -107,7 +107,7 @@ fits_setup : (language : Language) → IsPlainLanguage language → (whole : Boo
 fits_setup language is_plain whole setup sessions others k is none =
     let zero_is : 0 ≡ k = sym (same_from_test k 0 is) in
     subst (λ n. FitsSession whole n (texts_in setup sessions n) (answers_of n (answers_to language 0 1 setup [] ++ others))) zero_is
-      (subst (λ kept. FitsTexts whole 0 setup kept) (sym (of_setup language setup others none)) (setup_fits language is_plain whole setup))
+    (subst (λ kept. FitsTexts whole 0 setup kept) (sym (of_setup language setup others none)) (setup_fits language is_plain whole setup))
 
 none_for : (language : Language) (sessions : List Session) (tables : List Table) → IsAlone sessions → answers_of 0 (sessions_answers language sessions tables) ≡ []
 none_for language [] tables is_alone = refl
@@ -120,15 +120,15 @@ fits_one : (language : Language) → IsPlainLanguage language → (whole : Bool)
     FitsSession whole k (option_map (λ s. s.texts) (cond (session.number == k) (Some session) None)) (answers_of k (session_answers language session tables ++ []))
 fits_one language is_plain whole session tables k is (inl same) =
     let kept : answers_of k (session_answers language session tables ++ []) ≡ session_answers language session tables =
-        ap (answers_of k) (append-nil (session_answers language session tables)) ∙ of_session language session tables k same in
+    ap (answers_of k) (append-nil (session_answers language session tables)) ∙ of_session language session tables k same in
     let mine : FitsTexts whole k session.texts (session_answers language session tables) =
-        subst (λ n. FitsTexts whole n session.texts (session_answers language session tables)) (same_from_test session.number k same)
-          (session_fits language is_plain whole session tables is) in
+    subst (λ n. FitsTexts whole n session.texts (session_answers language session tables)) (same_from_test session.number k same)
+    (session_fits language is_plain whole session tables is) in
     subst (λ (o : Option Session). FitsSession whole k (option_map (λ s. s.texts) o) (answers_of k (session_answers language session tables ++ []))) (if_so (session.number == k) (Some session) None same)
-      (subst (λ answers. FitsTexts whole k session.texts answers) (sym kept) mine)
+    (subst (λ answers. FitsTexts whole k session.texts answers) (sym kept) mine)
 fits_one language is_plain whole session tables k is (inr other) =
     subst (λ (o : Option Session). FitsSession whole k (option_map (λ s. s.texts) o) (answers_of k (session_answers language session tables ++ []))) (if_else (session.number == k) (Some session) None other)
-      (ap (answers_of k) (append-nil (session_answers language session tables)) ∙ not_of_session language session tables k other)
+    (ap (answers_of k) (append-nil (session_answers language session tables)) ∙ not_of_session language session tables k other)
 
 fits_later : (language : Language) → IsPlainLanguage language → (whole : Bool) (setup : List (List ℕ)) (sessions : List Session) (tables : List Table) (k : ℕ) →
     (k == 0) ≡ false → IsAlone sessions → FitsSession whole k (option_map (λ s. s.texts) (find (λ s. s.number == k) sessions)) (answers_of k (sessions_answers language sessions tables))
@@ -144,10 +144,10 @@ fits_either language is_plain whole setup sessions tables is_alone k (inl first)
     fits_setup language is_plain whole setup sessions (sessions_answers language sessions tables) k first (none_for language sessions tables is_alone)
 fits_either language is_plain whole setup sessions tables is_alone k (inr later) =
     subst (λ (o : Option (List (List ℕ))). FitsSession whole k o (answers_of k (answers_to language 0 1 setup [] ++ sessions_answers language sessions tables)))
-      (if_else (k == 0) (Some setup) (option_map (λ s. s.texts) (find (λ s. s.number == k) sessions)) later)
-      (subst (λ answers. FitsSession whole k (option_map (λ s. s.texts) (find (λ s. s.number == k) sessions)) answers)
-        (sym (behind_setup language setup (sessions_answers language sessions tables) k later))
-        (fits_later language is_plain whole setup sessions tables k later is_alone))
+    (if_else (k == 0) (Some setup) (option_map (λ s. s.texts) (find (λ s. s.number == k) sessions)) later)
+    (subst (λ answers. FitsSession whole k (option_map (λ s. s.texts) (find (λ s. s.number == k) sessions)) answers)
+    (sym (behind_setup language setup (sessions_answers language sessions tables) k later))
+    (fits_later language is_plain whole setup sessions tables k later is_alone))
 
 pub fits_at : (language : Language) → IsPlainLanguage language → (whole : Bool) (setup : List (List ℕ)) (sessions : List Session) (tables : List Table) → IsAlone sessions → (k : ℕ) →
     FitsSession whole k (texts_in setup sessions k) (answers_of k (answers_to language 0 1 setup [] ++ sessions_answers language sessions tables))

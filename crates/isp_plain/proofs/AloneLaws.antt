@@ -1,18 +1,17 @@
 -- A session that runs alone, outside of transactions, gives serial answers that fit its texts.
-use Rattle.std.proofs.Common.{◌≡◌, ℕ, zero, suc, ◌<◌, ◌≤◌, ◌^◌, ◌+◌, ◌-◌, Bool, true, false, not, cond, ◌&&◌, ◌||◌, ◌==◌, List, [], ◌∷◌, ◌++◌, length, map, filter, drop, slice_get, refl, ap, ◌∙◌, sym, subst, append_assoc, arith, Option, Some, None, MatchBool, if◌then◌else◌}
+use Rattle.std.proofs.Common.{◌≡◌, ℕ, zero, suc, ◌≤◌, ◌+◌, ◌-◌, Bool, true, false, not, ◌&&◌, ◌||◌, ◌==◌, List, [], ◌∷◌, ◌++◌, length, map, drop, slice_get, refl, ap, ◌∙◌, sym, subst, arith, Option, Some, None, MatchBool, if◌then◌else◌}
 use Rattle.std.specs.Prelude.{All, ◌↔◌}
 use Rattle.std.specs.Option.{option_and_then}
 use Rattle.std.proofs.lemmas.Bool.Decides.{nat_tests}
-use Rattle.std.proofs.lemmas.List.Elements.{All-cons, All-head, All-tail, All-append, filter-append}
+use Rattle.std.proofs.lemmas.List.Elements.{All-cons}
 use Rattle.isp_plain.specs.declared.script.Script.{Script}
-use Rattle.isp_plain.specs.declared.script.Session.{Session}
-use Rattle.isp_plain.specs.Alone.{turn_of, answer_with, answer_to, answers_to, tables_after, session_answers, sessions_answers, sessions_after, run_answers, run_after}
-use Rattle.isp_plain.specs.Answers.{Answer, Fits, FitsSession, FitsTexts, NeverFalls, answers_of, counted_from, is_end, is_full, is_deadlock}
-use Rattle.isp_plain.specs.Script.{texts_of, text_in, text_at, answers_due}
-use Rattle.isp_plain.specs.Serial.{Serial, EndsAll, Ends, Replays, Agrees, Repeats, Becomes, Pending, none_pending, is_inside, is_given, done, effect_of}
+use Rattle.isp_plain.specs.Alone.{turn_of, answer_with, answer_to, answers_to, tables_after}
+use Rattle.isp_plain.specs.Answers.{Answer, NeverFalls, answers_of, counted_from, is_end, is_full, is_deadlock}
+use Rattle.isp_plain.specs.Script.{texts_of, text_in, text_at}
+use Rattle.isp_plain.specs.Serial.{EndsAll, Repeats, Pending, none_pending, is_given, done, effect_of}
 use Rattle.isp_plain.specs.Tables.{Table}
-use Rattle.isp_plain.specs.Texts.{reply_text, end_text}
-use Rattle.isp_plain.specs.Transactions.{Language, Effect, ends, keeps, is_begin, is_ok, stays}
+use Rattle.isp_plain.specs.Texts.{end_text}
+use Rattle.isp_plain.specs.Transactions.{Language, Effect, ends, keeps, stays}
 
 -- a run of answers goes on where another one ends
 pub joined : (language : Language) (script : Script) (t u v : List Table) (p q r : Pending) (xs ys : List Answer) →
@@ -84,14 +83,17 @@ one language script is_plain session number text tables at =
     let a = answer_to language session number text tables in
     let after = (done language tables session false text).tables in
     let effect = effect_of language (text_at script session number) in
-    let given = is_plain.not_given tables session number text in
-    (after, none_pending
-    , match_true (ends false effect a) _ _ (ends_alone effect a (stays_of language is_plain (text_at script session number)))
-        (after
-        , (after, match_false (is_given a) _ _ given (repeats language session number text tables (text_at script session number) at), refl)
-        , if_so (keeps false effect a) after tables (keeps_alone effect a given)
-        , λ k. if_same (k == session) [])
-    , (refl, refl))
+    let given = is_plain.not_given tables session number text in (
+      after,
+      none_pending,
+      match_true (ends false effect a) _ _ (ends_alone effect a (stays_of language is_plain (text_at script session number))) (
+        after,
+        (after, match_false (is_given a) _ _ given (repeats language session number text tables (text_at script session number) at), refl),
+        if_so (keeps false effect a) after tables (keeps_alone effect a given),
+        λ k. if_same (k == session) [],
+      ),
+      (refl, refl),
+    )
 
 pub end_is_given : (session number : ℕ) → is_given (answer_with session number end_text) ≡ true
 unfolding end_text
@@ -102,14 +104,17 @@ pub over : (language : Language) (script : Script) → IsPlainLanguage language 
     EndsAll language script tables none_pending (answer_with session number end_text ∷ []) tables none_pending
 over language script is_plain session number tables =
     let a = answer_with session number end_text in
-    let effect = effect_of language (text_at script session number) in
-    (tables, none_pending
-    , match_true (ends false effect a) _ _ (ends_alone effect a (stays_of language is_plain (text_at script session number)))
-        (tables
-        , (tables, match_true (is_given a) _ _ (end_is_given session number) refl, refl)
-        , if_same (keeps false effect a) tables
-        , λ k. if_same (k == session) [])
-    , (refl, refl))
+    let effect = effect_of language (text_at script session number) in (
+      tables,
+      none_pending,
+      match_true (ends false effect a) _ _ (ends_alone effect a (stays_of language is_plain (text_at script session number))) (
+        tables,
+        (tables, match_true (is_given a) _ _ (end_is_given session number) refl, refl),
+        if_same (keeps false effect a) tables,
+        λ k. if_same (k == session) [],
+      ),
+      (refl, refl),
+    )
 
 -- where the list from place n on begins with x, x stands at n, and the others begin behind it
 at_place : {X : Type 0} (xs : List X) (n : ℕ) (x : X) (others : List X) → drop n xs ≡ x ∷ others → (slice_get xs n ≡ Some x) × (drop (n + 1) xs ≡ others)
@@ -135,11 +140,11 @@ all_of language script is_plain session n all [] tables of is = (refl, refl)
 all_of language script is_plain session n all (text ∷ texts) tables of is =
     let here = at_place all n text texts is in
     let at : text_at script session (n + 1) ≡ Some text =
-        ap (λ o. option_and_then (λ ts. text_in ts (n + 1)) o) of ∙ (text_in-next all n ∙ here.0) in
+    ap (λ o. option_and_then (λ ts. text_in ts (n + 1)) o) of ∙ (text_in-next all n ∙ here.0) in
     joined language script tables (done language tables session false text).tables (tables_after language session (text ∷ texts) tables) none_pending none_pending none_pending
-        (answer_to language session (n + 1) text tables ∷ []) (answers_to language session (n + 1 + 1) texts (done language tables session false text).tables)
-        (one language script is_plain session (n + 1) text tables at)
-        (all_of language script is_plain session (n + 1) all texts (done language tables session false text).tables of here.1)
+    (answer_to language session (n + 1) text tables ∷ []) (answers_to language session (n + 1 + 1) texts (done language tables session false text).tables)
+    (one language script is_plain session (n + 1) text tables at)
+    (all_of language script is_plain session (n + 1) all texts (done language tables session false text).tables of here.1)
 
 pub same_number : (n : ℕ) → (n == n) ≡ true
 same_number n = grind (arith, nat_tests)
@@ -195,8 +200,8 @@ no_ends language is_plain session n m (text ∷ texts) tables below =
     let a = answer_to language session n text tables in
     let none = no_end (is_end a) (is_full a) (is_deadlock a) (is_plain.not_given tables session n text) in
     All-cons (λ a. (is_end a ≡ true) ↔ (a.number ≡ m)) a _
-        ((λ over. let e : true ≡ false = sym over ∙ none in cc), (λ same. absurd (omega arith)))
-        (no_ends language is_plain session (n + 1) m texts (done language tables session false text).tables (omega arith))
+    ((λ over. let e : true ≡ false = sym over ∙ none in cc), (λ same. absurd (omega arith)))
+    (no_ends language is_plain session (n + 1) m texts (done language tables session false text).tables (omega arith))
 
 -- turns of a session rise with its statements
 pub rising : (language : Language) (session least n m : ℕ) (texts : List (List ℕ)) (tables : List Table) → (session == 0) ≡ false → least ≤ n → n + length texts ≡ m →
@@ -207,7 +212,7 @@ rising language session least n m (text ∷ texts) tables is low last =
     let turn : n ≡ turn_of session n = if_else (session == 0) 0 n is in
     let rest = answers_to language session (n + 1) texts (done language tables session false text).tables ++ answer_with session m end_text ∷ [] in
     subst (λ t. (least ≤ t) × NeverFalls t (map (λ a. a.turn) rest)) turn
-      (low, rising language session n (n + 1) m texts (done language tables session false text).tables is (omega arith) (omega arith))
+    (low, rising language session n (n + 1) m texts (done language tables session false text).tables is (omega arith) (omega arith))
 
 pub flat : (language : Language) (n : ℕ) (texts : List (List ℕ)) (tables : List Table) (more : List Answer) → NeverFalls 0 (map (λ a. a.turn) more) →
     NeverFalls 0 (map (λ a. a.turn) (answers_to language 0 n texts tables ++ more))

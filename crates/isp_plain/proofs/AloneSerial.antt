@@ -1,5 +1,5 @@
 -- A setup, and one session that runs after it, are serial, whatever the statements are.
-use Rattle.std.proofs.Common.{◌≡◌, ℕ, suc, ◌<◌, ◌≤◌, ◌+◌, ◌^◌, Bool, true, false, ◌||◌, ◌==◌, List, [], ◌∷◌, ◌++◌, length, map, refl, ap, ◌∙◌, sym, subst, arith, Option, Some, None, if◌then◌else◌, append-nil}
+use Rattle.std.proofs.Common.{◌≡◌, ℕ, ◌<◌, ◌+◌, ◌^◌, Bool, true, false, ◌||◌, ◌==◌, List, [], ◌∷◌, ◌++◌, length, map, refl, ap, ◌∙◌, sym, subst, arith, Some, None, if◌then◌else◌, append-nil}
 use Rattle.std.specs.Prelude.{All}
 use Rattle.std.specs.List.{find}
 use Rattle.std.specs.Option.{option_map}
@@ -7,10 +7,10 @@ use Rattle.std.proofs.lemmas.List.Elements.{All-cons, All-append}
 use Rattle.isp_plain.specs.declared.script.Script.{Script}
 use Rattle.isp_plain.specs.declared.script.Session.{Session}
 use Rattle.isp_plain.specs.Alone.{turn_of, answer_with, answer_to, answers_to, tables_after, session_answers, sessions_answers, sessions_after, run_answers, run_after, AreSmall, IsAlone}
-use Rattle.isp_plain.specs.Answers.{Answer, Fits, NeverFalls, is_end, is_full, is_deadlock}
+use Rattle.isp_plain.specs.Answers.{Answer, NeverFalls, is_end, is_full, is_deadlock}
 use Rattle.isp_plain.specs.Script.{texts_of}
 use Rattle.isp_plain.specs.Serial.{Serial, EndsAll, none_pending, done}
-use Rattle.isp_plain.specs.Spelling.{IsShown, is_one_line}
+use Rattle.isp_plain.specs.Spelling.{IsShown}
 use Rattle.isp_plain.specs.Tables.{Table}
 use Rattle.isp_plain.specs.Texts.{end_text, full_text, deadlock_text}
 use Rattle.isp_plain.specs.Transactions.{Language}
@@ -31,19 +31,19 @@ session_ends language script is_plain (session ∷ []) tables of is_alone =
     let said = answers_to language session.number 1 session.texts tables in
     let last = answer_with session.number (length session.texts + 1) end_text in
     let its_texts : texts_of script session.number ≡ Some session.texts =
-        sym (if_else (session.number == 0) (Some script.setup) (option_map (λ s. s.texts) (find (λ s. s.number == session.number) script.sessions)) is_alone)
-        ∙ (ap (λ (ss : List Session). option_map (λ s. s.texts) (find (λ s. s.number == session.number) ss)) of ∙ texts_of_only session) in
+    sym (if_else (session.number == 0) (Some script.setup) (option_map (λ s. s.texts) (find (λ s. s.number == session.number) script.sessions)) is_alone)
+    ∙ (ap (λ (ss : List Session). option_map (λ s. s.texts) (find (λ s. s.number == session.number) ss)) of ∙ texts_of_only session) in
     subst (λ answers. EndsAll language script tables none_pending answers after none_pending) (sym (append-nil (said ++ last ∷ [])))
-      (joined language script tables after after none_pending none_pending none_pending said (last ∷ [])
-        (all_of language script is_plain session.number 0 session.texts session.texts tables its_texts refl)
-        (over language script is_plain session.number (length session.texts + 1) after))
+    (joined language script tables after after none_pending none_pending none_pending said (last ∷ [])
+    (all_of language script is_plain session.number 0 session.texts session.texts tables its_texts refl)
+    (over language script is_plain session.number (length session.texts + 1) after))
 
 turns_rise : (language : Language) (sessions : List Session) (tables : List Table) → IsAlone sessions → NeverFalls 0 (map (λ a. a.turn) (sessions_answers language sessions tables))
 turns_rise language [] tables is_alone = tt
 turns_rise language (session ∷ other ∷ sessions) tables is_alone = absurd is_alone
 turns_rise language (session ∷ []) tables is_alone =
     subst (λ answers. NeverFalls 0 (map (λ a. a.turn) answers)) (sym (append-nil (session_answers language session tables)))
-      (rising language session.number 0 1 (length session.texts + 1) session.texts tables is_alone (omega arith) (omega arith))
+    (rising language session.number 0 1 (length session.texts + 1) session.texts tables is_alone (omega arith) (omega arith))
 
 -- from no tables
 pub alone_is_serial : (language : Language) (script : Script) → IsPlainLanguage language → IsAlone script.sessions →
@@ -95,17 +95,21 @@ plain_texts language is_plain session n (text ∷ texts) tables known small =
     let a = answer_to language session n text tables in
     let given = given_parts (is_end a) (is_full a) (is_deadlock a) (is_plain.not_given tables session n text) in
     All-cons IsPlainAnswer a _
-      (record {
-        shown = record { turn = turn_small session n (omega arith); session = known; number = omega arith; text = reply_line (done language tables session false text).reply };
-        turn = refl; not_full = given.0; not_deadlock = given.1;
-      })
-      (plain_texts language is_plain session (n + 1) texts (done language tables session false text).tables known (omega arith))
+    (record {
+      shown = record { turn = turn_small session n (omega arith); session = known; number = omega arith; text = reply_line (done language tables session false text).reply };
+      turn = refl;
+      not_full = given.0;
+      not_deadlock = given.1;
+    })
+    (plain_texts language is_plain session (n + 1) texts (done language tables session false text).tables known (omega arith))
 
 plain_end : (session number : ℕ) → session < 2 ^ 64 → number < 2 ^ 64 → IsPlainAnswer (answer_with session number end_text)
 plain_end session number known small = record {
-    shown = record { turn = turn_small session number small; session = known; number = small; text = end_line };
-    turn = refl; not_full = (end_not session number).0; not_deadlock = (end_not session number).1;
-  }
+  shown = record { turn = turn_small session number small; session = known; number = small; text = end_line };
+  turn = refl;
+  not_full = (end_not session number).0;
+  not_deadlock = (end_not session number).1;
+}
 
 plain_sessions : (language : Language) → IsPlainLanguage language → (sessions : List Session) (tables : List Table) → AreSmall sessions →
     All IsPlainAnswer (sessions_answers language sessions tables)
@@ -114,14 +118,14 @@ plain_sessions language is_plain (session ∷ sessions) tables small =
     let said = answers_to language session.number 1 session.texts tables in
     let last = answer_with session.number (length session.texts + 1) end_text in
     All-append IsPlainAnswer (said ++ last ∷ []) _
-      (All-append IsPlainAnswer said (last ∷ [])
-        (plain_texts language is_plain session.number 1 session.texts tables small.0 (omega arith))
-        (All-cons IsPlainAnswer last [] (plain_end session.number (length session.texts + 1) small.0 small.1) (λ k d inside. absurd (omega arith))))
-      (plain_sessions language is_plain sessions (tables_after language session.number session.texts tables) small.2)
+    (All-append IsPlainAnswer said (last ∷ [])
+    (plain_texts language is_plain session.number 1 session.texts tables small.0 (omega arith))
+    (All-cons IsPlainAnswer last [] (plain_end session.number (length session.texts + 1) small.0 small.1) (λ k d inside. absurd (omega arith))))
+    (plain_sessions language is_plain sessions (tables_after language session.number session.texts tables) small.2)
 
 pub all_plain : (language : Language) (script : Script) → IsPlainLanguage language → length script.setup + 1 < 2 ^ 64 → AreSmall script.sessions →
     All IsPlainAnswer (run_answers language script)
 all_plain language script is_plain setup_small sessions_small =
     All-append IsPlainAnswer (answers_to language 0 1 script.setup []) _
-      (plain_texts language is_plain 0 1 script.setup [] (omega arith) (omega arith))
-      (plain_sessions language is_plain script.sessions (tables_after language 0 script.setup []) sessions_small)
+    (plain_texts language is_plain 0 1 script.setup [] (omega arith) (omega arith))
+    (plain_sessions language is_plain script.sessions (tables_after language 0 script.setup []) sessions_small)

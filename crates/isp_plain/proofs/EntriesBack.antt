@@ -1,10 +1,10 @@
 -- Rows that are added one by one, and taken out again, the last first, so that nothing of them is left.
-use Rattle.std.proofs.Common.{◌≡◌, ℕ, ℤ, Bool, ◌<◌, ◌+◌, List, [], ◌∷◌, ◌++◌, refl, ap, false, true, ◌∙◌, sym, length, take, drop, get_or, is_some, cond, Some, None}
+use Rattle.std.proofs.Common.{◌≡◌, ℕ, ℤ, Bool, ◌<◌, ◌+◌, List, [], ◌∷◌, ◌++◌, refl, ap, false, true, ◌∙◌, sym, length, take, drop, get_or, is_some, cond, Some}
 use Rattle.std.specs.declared.cmp.Ordering.{Ordering}
 use Rattle.std.specs.declared.cmp.Ordering.TheVariants.{Less, Equal, Greater}
 use Rattle.std.specs.Ordering.{int_cmp, is_eq, match_ordering}
 use Rattle.std.specs.Cmp.{int_cmp_is}
-use Rattle.std.specs.Map.{lookup, remove_entry}
+use Rattle.std.specs.Map.{lookup}
 use Rattle.std.specs.BTreeMap.{insert_entry, is_at}
 use Rattle.std.proofs.lemmas.List.{drop_more, take_more}
 use Rattle.isp_plain.specs.Entries.{has_key, with_row, with_rows, without_row, without_rows, first_duplicate}

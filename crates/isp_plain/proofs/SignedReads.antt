@@ -1,5 +1,5 @@
 -- A signed number that is passed on, or read behind a reference, is the number that was there.
-use Rattle.std.proofs.Common.{◌≡◌, ◌∙◌, ℤ, w64, to_z, of_z, ◌<◌, rules, arith}
+use Rattle.std.proofs.Common.{◌≡◌, ◌∙◌, ℤ, w64, to_z, of_z, ◌<◌, rules}
 use lib.Signed.{mag}
 use mir.Val.{SFits}
 use Rattle.std.proofs.lemmas.Int.{to_z-of_z}

@@ -1,6 +1,6 @@
 -- Printed bytes spell one list of answers at the most: a line ends at its first line feed, and its numbers end where the
 -- first byte stands that is no digit.
-use Rattle.std.proofs.Common.{◌≡◌, ℕ, suc, ◌<◌, ◌≤◌, ◌^◌, ◌+◌, ◌/◌, ◌%◌, Bool, true, false, not, ◌&&◌, ◌==◌, List, [], ◌∷◌, ◌++◌, refl, ap, ◌∙◌, sym, append_assoc, arith}
+use Rattle.std.proofs.Common.{◌≡◌, ℕ, suc, ◌<◌, ◌^◌, ◌+◌, ◌%◌, Bool, true, false, not, ◌&&◌, ◌==◌, List, [], ◌∷◌, ◌++◌, refl, ap, ◌∙◌, sym, append_assoc, arith}
 use Rattle.std.specs.Prelude.{All}
 use Rattle.std.specs.Char.{is_ascii_digit}
 use Rattle.std.specs.Fmt.{decimal}
@@ -9,7 +9,7 @@ use Rattle.std.proofs.lemmas.Bool.Decides.{nat_tests}
 use Rattle.std.proofs.lemmas.Fmt.{decimal_injective, decimal_by_steps}
 use Rattle.std.proofs.lemmas.List.Folds.{list_all-append}
 use Rattle.isp_plain.specs.Answers.{Answer}
-use Rattle.isp_plain.specs.Spelling.{line_of, is_one_line, IsShown, Spells, SpelledOnce}
+use Rattle.isp_plain.specs.Spelling.{line_of, is_one_line, IsShown, SpelledOnce}
 
 both : (a b : Bool) → (a && b) ≡ true → (a ≡ true) × (b ≡ true)
 both true b h = (refl, h)
@@ -45,9 +45,9 @@ digit_passes n small = grind (arith, nat_tests)
 pub decimal_is_digits : (n : ℕ) → n < 2 ^ 64 → list_all is_ascii_digit (decimal n) ≡ true
 decimal_is_digits n small =
     decimal_by_steps (λ n ds. list_all is_ascii_digit ds ≡ true)
-      (λ n one. rw (digit_passes n one) refl)
-      (λ n ds many shorter. rw (list_all-append is_ascii_digit ds ((48 + n % 10) ∷ []), shorter, digit_passes (n % 10) (omega arith)) refl)
-      n small
+    (λ n one. rw (digit_passes n one) refl)
+    (λ n ds many shorter. rw (list_all-append is_ascii_digit ds ((48 + n % 10) ∷ []), shorter, digit_passes (n % 10) (omega arith)) refl)
+    n small
 
 -- a line and what stands behind it
 line_then : Answer → List ℕ → List ℕ
@@ -76,13 +76,14 @@ line_once a b r s as_line bs_line e =
     let turns = cut_at_first is_ascii_digit (decimal a.turn) (decimal b.turn) _ _ 32 32 (decimal_is_digits a.turn as_line.turn) (decimal_is_digits b.turn bs_line.turn) refl refl e in
     let sessions = cut_at_first is_ascii_digit (decimal a.session) (decimal b.session) _ _ 46 46 (decimal_is_digits a.session as_line.session) (decimal_is_digits b.session bs_line.session) refl refl turns.2 in
     let numbers = cut_at_first is_ascii_digit (decimal a.number) (decimal b.number) _ _ 32 32 (decimal_is_digits a.number as_line.number) (decimal_is_digits b.number bs_line.number) refl refl sessions.2 in
-    let texts = cut_at_first (λ x. not (x == 10)) a.text b.text r s 10 10 as_line.text bs_line.text refl refl numbers.2 in
-    (same_answer _ _ _ _ _ _ _ _
-        (decimal_injective a.turn b.turn as_line.turn bs_line.turn turns.0)
-        (decimal_injective a.session b.session as_line.session bs_line.session sessions.0)
-        (decimal_injective a.number b.number as_line.number bs_line.number numbers.0)
-        texts.0
-    , texts.2)
+    let texts = cut_at_first (λ x. not (x == 10)) a.text b.text r s 10 10 as_line.text bs_line.text refl refl numbers.2 in (
+      same_answer _ _ _ _ _ _ _ _
+          (decimal_injective a.turn b.turn as_line.turn bs_line.turn turns.0)
+          (decimal_injective a.session b.session as_line.session bs_line.session sessions.0)
+          (decimal_injective a.number b.number as_line.number bs_line.number numbers.0)
+          texts.0,
+      texts.2,
+    )
 
 once : (a b : List Answer) (r s : List ℕ) → is_one_line r ≡ true → is_one_line s ≡ true → All IsShown a → All IsShown b →
     flat_map line_of a ++ r ≡ flat_map line_of b ++ s → a ≡ b

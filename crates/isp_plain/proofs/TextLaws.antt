@@ -1,21 +1,19 @@
 -- The text of every reply is one line, and none but a refusal's is taken for END, a full file or a deadlock.
-use Rattle.std.proofs.Common.{◌≡◌, ℕ, zero, suc, ℤ, pos, negsuc, ◌<◌, ◌≤◌, ◌+◌, ◌/◌, ◌%◌, Bool, true, false, not, cond, ◌&&◌, ◌||◌, ◌==◌, List, [], ◌∷◌, ◌++◌, length, refl, ap, ◌∙◌, sym, arith, ◌⊎◌, inl, inr, if◌then◌else◌, codes}
+use Rattle.std.proofs.Common.{◌≡◌, ℕ, zero, suc, ℤ, pos, negsuc, ◌/◌, ◌%◌, Bool, true, false, not, ◌==◌, List, [], ◌∷◌, ◌++◌, length, refl, arith, if◌then◌else◌, codes}
 use Rattle.std.specs.Fmt.{decimal, signed_decimal, digits, digits_onto, digit_glyph}
-use Rattle.std.specs.List.{flat_map, list_all}
+use Rattle.std.specs.List.{flat_map}
 use Rattle.std.proofs.lemmas.Bool.Decides.{nat_tests}
 use Rattle.std.proofs.lemmas.List.Folds.{list_all-append}
-use Rattle.isp_plain.specs.declared.value.Geometry.{Geometry}
 use Rattle.isp_plain.specs.declared.value.Geometry.TheVariants as geometry
 use Rattle.isp_plain.specs.declared.value.Row.{Row}
 use Rattle.isp_plain.specs.declared.value.Value.{Value}
 use Rattle.isp_plain.specs.declared.value.Value.TheVariants.{Int, Geo}
 use Rattle.isp_plain.specs.declared.statement.Reply.{Reply}
 use Rattle.isp_plain.specs.declared.statement.Reply.TheVariants as reply
-use Rattle.isp_plain.specs.Answers.{is_end, is_full, is_deadlock}
 use Rattle.isp_plain.specs.Alone.{answer_with}
 use Rattle.isp_plain.specs.Serial.{is_given}
 use Rattle.isp_plain.specs.Spelling.{is_one_line}
-use Rattle.isp_plain.specs.Texts.{ok_text, end_text, full_text, deadlock_text, duplicate_text, no_table_text, not_built_text, refusal_text, coordinates, geometry_text, value_text, values_text, row_text, count_text, reply_text}
+use Rattle.isp_plain.specs.Texts.{ok_text, end_text, full_text, deadlock_text, duplicate_text, no_table_text, not_built_text, refusal_text, coordinates, value_text, values_text, row_text, count_text, reply_text}
 
 -- two pieces of one line are one line
 pub one_line-append : (xs ys : List ℕ) → is_one_line xs ≡ true → is_one_line ys ≡ true → is_one_line (xs ++ ys) ≡ true
@@ -49,7 +47,7 @@ value_line : (value : Value) → is_one_line (value_text value) ≡ true
 value_line (Int number) = signed_line number
 value_line (Geo (geometry.Point p)) =
     one_line-append (codes "POINT(") (coordinates p.x p.y ++ 41 ∷ []) refl
-      (one_line-append (coordinates p.x p.y) (41 ∷ []) (one_line-append (signed_decimal p.x) (32 ∷ signed_decimal p.y) (signed_line p.x) (one_line-cons 32 (signed_decimal p.y) refl (signed_line p.y))) refl)
+    (one_line-append (coordinates p.x p.y) (41 ∷ []) (one_line-append (signed_decimal p.x) (32 ∷ signed_decimal p.y) (signed_line p.x) (one_line-cons 32 (signed_decimal p.y) refl (signed_line p.y))) refl)
 
 others_line : (values : List Value) → is_one_line (flat_map (λ value. 44 ∷ value_text value) values) ≡ true
 others_line [] = refl
@@ -80,9 +78,9 @@ end_line = fixed_lines.1
 refusal_line : (number : ℕ) (at : ℤ) → is_one_line (refusal_text number at) ≡ true
 refusal_line number at =
     either (number == 1062) _ _ (one_line-append duplicate_text _ fixed_lines.4 (signed_line at))
-      (either (number == 1114) _ _ fixed_lines.2
-        (either (number == 1146) _ _ fixed_lines.5
-          (either (number == 1213) _ _ fixed_lines.3 fixed_lines.6)))
+    (either (number == 1114) _ _ fixed_lines.2
+    (either (number == 1146) _ _ fixed_lines.5
+    (either (number == 1213) _ _ fixed_lines.3 fixed_lines.6)))
 
 pub reply_line : (r : Reply) → is_one_line (reply_text r) ≡ true
 reply_line reply.Ok = fixed_lines.0
@@ -132,7 +130,7 @@ own_not_given session number (reply.Count n) own = count_own session number n
 own_not_given session number (reply.Rows rows) own = counted_own session number (length rows) (flat_map (λ row. 32 ∷ row_text row) rows)
 own_not_given session number (reply.Err code at) own =
     chosen session number (code == 1062) _ _ (duplicate_own session number at)
-      (passed_over session number (code == 1114) full_text _ own.0
-        (chosen session number (code == 1146) _ _ (fixed_own session number).1
-          (passed_over session number (code == 1213) deadlock_text not_built_text own.1 (fixed_own session number).2)))
+    (passed_over session number (code == 1114) full_text _ own.0
+    (chosen session number (code == 1146) _ _ (fixed_own session number).1
+    (passed_over session number (code == 1213) deadlock_text not_built_text own.1 (fixed_own session number).2)))
 own_not_given session number reply.End own = absurd own

@@ -1,6 +1,6 @@
 -- Sessions that run one after another, outside of transactions: each statement is answered by itself, on the tables that
 -- the one before it left.
-use Rattle.std.specs.Prelude.{◌≡◌, ℕ, ◌<◌, ◌^◌, ◌+◌, ◌==◌, true, false, List, [], ◌∷◌, ◌++◌, length, if◌then◌else◌}
+use Rattle.std.specs.Prelude.{◌≡◌, ℕ, ◌<◌, ◌^◌, ◌+◌, ◌==◌, false, List, [], ◌∷◌, ◌++◌, length, if◌then◌else◌}
 use Rattle.isp_plain.specs.declared.script.Script.{Script}
 use Rattle.isp_plain.specs.declared.script.Session.{Session}
 use Rattle.isp_plain.specs.Answers.{Answer}
@@ -24,7 +24,7 @@ abbrev pub answers_to : Language → ℕ → ℕ → List (List ℕ) → List Ta
 answers_to language session number [] tables = []
 answers_to language session number (text ∷ texts) tables =
     answer_to language session number text tables
-        ∷ answers_to language session (number + 1) texts (done language tables session false text).tables
+    ∷ answers_to language session (number + 1) texts (done language tables session false text).tables
 
 abbrev pub tables_after : Language → ℕ → List (List ℕ) → List Table → List Table
 tables_after language session [] tables = tables
@@ -34,13 +34,13 @@ tables_after language session (text ∷ texts) tables =
 abbrev pub session_answers : Language → Session → List Table → List Answer
 session_answers language session tables =
     answers_to language session.number 1 session.texts tables
-        ++ answer_with session.number (length session.texts + 1) end_text ∷ []
+    ++ answer_with session.number (length session.texts + 1) end_text ∷ []
 
 abbrev pub sessions_answers : Language → List Session → List Table → List Answer
 sessions_answers language [] tables = []
 sessions_answers language (session ∷ sessions) tables =
     session_answers language session tables
-        ++ sessions_answers language sessions (tables_after language session.number session.texts tables)
+    ++ sessions_answers language sessions (tables_after language session.number session.texts tables)
 
 abbrev pub sessions_after : Language → List Session → List Table → List Table
 sessions_after language [] tables = tables
@@ -51,7 +51,7 @@ sessions_after language (session ∷ sessions) tables =
 abbrev pub run_answers : Language → Script → List Answer
 run_answers language script =
     answers_to language 0 1 script.setup []
-        ++ sessions_answers language script.sessions (tables_after language 0 script.setup [])
+    ++ sessions_answers language script.sessions (tables_after language 0 script.setup [])
 
 abbrev pub run_after : Language → Script → List Table
 run_after language script = sessions_after language script.sessions (tables_after language 0 script.setup [])

@@ -1,5 +1,5 @@
 -- The answers that a run prints, and whether they fit the script: one for each statement, in its session's order.
-use Rattle.std.specs.Prelude.{◌≡◌, ◌↔◌, ℕ, ◌+◌, ◌≤◌, Bool, true, false, ◌==◌, List, [], ◌∷◌, ◌++◌, length, map, filter, All, if◌then◌else◌, Option, Some, None}
+use Rattle.std.specs.Prelude.{◌≡◌, ◌↔◌, ℕ, ◌+◌, ◌≤◌, Bool, true, ◌==◌, List, [], ◌∷◌, length, map, filter, All, if◌then◌else◌, Option, Some, None}
 use Rattle.std.specs.Str.{bytes_eq}
 use Rattle.isp_plain.specs.declared.script.Script.{Script}
 use Rattle.isp_plain.specs.Script.{texts_of, answers_due}

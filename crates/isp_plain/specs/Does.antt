@@ -1,5 +1,5 @@
 -- What a statement answers and leaves on plain tables, as the MySQL 8.0 manual has these statements.
-use Rattle.std.specs.Prelude.{ℕ, ℤ, pos, Bool, true, false, List, [], ◌∷◌, ◌++◌, ◌&&◌, length, map, filter, slice_get, slice_set, Some, None, Option}
+use Rattle.std.specs.Prelude.{ℕ, ℤ, pos, Bool, false, List, [], ◌∷◌, ◌++◌, length, map, filter, slice_get, slice_set, Some, None, Option}
 use Rattle.std.specs.List.{list_all, filter_map, position}
 use Rattle.std.specs.Option.{option_map}
 use Rattle.std.specs.Str.{bytes_eq}

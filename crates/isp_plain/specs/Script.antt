@@ -1,5 +1,5 @@
 -- The texts that a script gives its setup, which is session 0, and its sessions.
-use Rattle.std.specs.Prelude.{ℕ, Bool, true, false, not, ◌-◌, ◌+◌, ◌==◌, List, length, slice_get, if◌then◌else◌, Option, Some, None}
+use Rattle.std.specs.Prelude.{ℕ, ◌-◌, ◌+◌, ◌==◌, List, length, slice_get, if◌then◌else◌, Option, Some, None}
 use Rattle.std.specs.List.{find}
 use Rattle.std.specs.Option.{option_map, option_and_then}
 use Rattle.isp_plain.specs.declared.script.Script.{Script}

@@ -38,7 +38,7 @@ Repeats language None inside tables answer after = ⊥
 abbrev pub Agrees : Language → Script → Bool → List Table → Answer → List Table → Type 0
 Agrees language script inside tables answer after =
     MatchBool (is_given answer) (after ≡ tables)
-        (Repeats language (text_at script answer.session answer.number) inside tables answer after)
+    (Repeats language (text_at script answer.session answer.number) inside tables answer after)
 
 -- a transaction done again, alone, on plain tables: each printed answer comes out, and this is what it leaves
 abbrev pub Replays : Language → Script → Bool → List Table → List Answer → List Table → Type 0
@@ -46,7 +46,7 @@ Replays language script inside tables [] after = after ≡ tables
 Replays language script inside tables (answer ∷ others) after =
     let effect = effect_of language (text_at script answer.session answer.number)
     in (mid : List Table) × Agrees language script inside tables answer mid
-        × Replays language script (inside || (is_begin effect && is_ok answer)) mid others after
+    × Replays language script (inside || (is_begin effect && is_ok answer)) mid others after
 
 -- a session is inside a transaction where it has answers that no end took
 abbrev pub is_inside : List Answer → Bool
@@ -72,17 +72,17 @@ Ends language script tables pending answer after left =
     let effect = effect_of language (text_at script answer.session answer.number) in
     let transaction = before ++ answer ∷ [] in
     MatchBool (ends (is_inside before) effect answer)
-        ((replayed : List Table) × Replays language script false tables transaction replayed
-            × (after ≡ (if keeps (is_inside before) effect answer then replayed else tables))
-            × Becomes pending answer.session [] left)
-        ((after ≡ tables) × Becomes pending answer.session transaction left)
+    ((replayed : List Table) × Replays language script false tables transaction replayed
+    × (after ≡ (if keeps (is_inside before) effect answer then replayed else tables))
+    × Becomes pending answer.session [] left)
+    ((after ≡ tables) × Becomes pending answer.session transaction left)
 
 -- all answers, in the order in which they were printed
 abbrev pub EndsAll : Language → Script → List Table → Pending → List Answer → List Table → Pending → Type 0
 EndsAll language script tables pending [] after left = (after ≡ tables) × (left ≡ pending)
 EndsAll language script tables pending (answer ∷ others) after left =
     (mid : List Table) × (next : Pending) × Ends language script tables pending answer mid next
-        × EndsAll language script mid next others after left
+    × EndsAll language script mid next others after left
 
 -- The answers are serial from the tables before to the tables after: they fit the script, every transaction agrees
 -- at its end, and what is still open agrees on the final tables.

@@ -1,6 +1,6 @@
 -- Transactions, read from a session's answers alone: which answers end one, and which ends commit (the MySQL 8.0
 -- manual on START TRANSACTION, COMMIT and autocommit).
-use Rattle.std.specs.Prelude.{ℕ, Bool, true, false, not, ◌&&◌, ◌||◌, List, [], ◌∷◌, if◌then◌else◌}
+use Rattle.std.specs.Prelude.{ℕ, Bool, true, false, not, ◌&&◌, ◌||◌, List, if◌then◌else◌}
 use Rattle.std.specs.Str.{bytes_eq}
 use Rattle.isp_plain.specs.declared.script.Place.{Place}
 use Rattle.isp_plain.specs.declared.statement.Statement.{Statement}

@@ -5,5 +5,4 @@ ghost use Rattle.isp_plain.specs.Spelling.{SpelledOnce};
 /// Printed bytes spell one list of answers at the most.
 pub fn law_spelled_once()
     ensures { SpelledOnce }
-{
-}
+{}

@@ -1,5 +1,5 @@
 -- What was printed, piece by piece, and what a run that was done has printed.
-use Rattle.std.proofs.Common.{◌≡◌, ◌∙◌, ℕ, ◌<◌, ◌≤◌, ◌+◌, ◌^◌, Bool, true, false, nat_lt, ap, sym, subst, refl, List, [], ◌∷◌, ◌++◌, length, length-append, append_assoc, append-nil, arith, Option, Some, None, ◌⊎◌, inl, inr, if◌then◌else◌}
+use Rattle.std.proofs.Common.{◌≡◌, ◌∙◌, ℕ, ◌<◌, ◌≤◌, ◌+◌, ◌^◌, Bool, true, false, nat_lt, ap, sym, subst, refl, List, [], ◌++◌, length, length-append, append_assoc, append-nil, arith, Option, Some, None, ◌⊎◌, inl, inr, if◌then◌else◌}
 use Rattle.std.specs.Prelude.{All, IfSome, IsSome}
 use Rattle.std.proofs.lemmas.Bool.{cases_lt}
 use Rattle.std.proofs.lemmas.Bool.Decides.{nat_tests}
@@ -38,12 +38,12 @@ plain_answers answers all = λ k d inside. let one = all k d inside in
 ran_script : (script : Script) (bytes before : List ℕ) (now : Option (List ℕ)) → script_of bytes ≡ Some script →
     now ≡ told_behind (Some before) (flat_map line_of (run_answers narrow script)) → (length script.setup + 1 < 2 ^ 64) × AreSmall script.sessions → Ran script before now
 ran_script script bytes before now is told small = record {
-    answers = run_answers narrow script;
-    told = told;
-    plain = plain_answers (run_answers narrow script) (all_plain narrow script narrow_is_plain small.0 small.1);
-    after = run_after narrow script;
-    serial = alone_is_serial narrow script narrow_is_plain (script_is_alone bytes script is);
-  }
+  answers = run_answers narrow script;
+  told = told;
+  plain = plain_answers (run_answers narrow script) (all_plain narrow script narrow_is_plain small.0 small.1);
+  after = run_after narrow script;
+  serial = alone_is_serial narrow script narrow_is_plain (script_is_alone bytes script is);
+}
 
 -- the headline, from what the parts of a run say
 pub ran : (left printed now : Option (List ℕ)) (script : Script) → IfSome left (λ bytes. Some script ≡ script_of bytes) →

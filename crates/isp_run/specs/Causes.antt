@@ -1,5 +1,5 @@
 -- Why a call ended before its end: a fault whose count rose, or want of memory.
-use Rattle.std.specs.Prelude.{◌≡◌, ℕ, ◌≤◌, Result, IfErr}
+use Rattle.std.specs.Prelude.{ℕ, ◌≤◌, Result, IfErr}
 use Rattle.isp_disk.specs.Outside.{Rose}
 use Rattle.isp_run.specs.declared.stop.Stop.{Stop}
 use Rattle.isp_run.specs.declared.stop.Stop.TheVariants.{Fault, Memory}

@@ -14,11 +14,10 @@ mod status;
 mod stop;
 mod words;
 
-pub use status::Status;
-
 use isp_disk::{Source, World};
 use play::play;
 use read::read_script;
+pub use status::Status;
 use std::alloc::Global;
 use stop::Stop;
 use words::is_run;

@@ -1,11 +1,10 @@
 -- Where the lines of bytes are cut, and where the blanks at the end of a line begin.
-use Rattle.std.proofs.Common.{◌≡◌, ℕ, suc, ◌<◌, ◌≤◌, ◌+◌, Bool, true, false, not, cond, ◌&&◌, ◌==◌, nat_lt, List, [], ◌∷◌, ◌++◌, length, take, drop, refl, ap, ◌∙◌, sym, arith, Option, Some, None, if◌then◌else◌, ◌⊎◌, inl, inr}
-use Rattle.std.specs.List.{slice_split, onto_first, position, position_or_len, before_first, after_first}
+use Rattle.std.proofs.Common.{◌≡◌, ℕ, suc, ◌≤◌, ◌+◌, true, false, ◌&&◌, ◌==◌, List, [], ◌∷◌, ◌++◌, length, take, drop, refl, ap, ◌∙◌, arith, Some, None, if◌then◌else◌, ◌⊎◌, inl, inr}
+use Rattle.std.specs.List.{onto_first, position, position_or_len}
 use Rattle.std.proofs.lemmas.Bool.Decides.{nat_tests}
 use Rattle.std.proofs.lemmas.List.Splits.{slice_split_first, slice_split-cons_no}
 use Rattle.isp_sql.proofs.PlaceLaws.{found, missing, decided}
 use Rattle.isp_sql.specs.Lines.{lines_of, is_blank, trimmed_length}
-
 
 whole_step : (b : ℕ) (bytes : List ℕ) → ((b == 10) ≡ true) ⊎ ((b == 10) ≡ false) → suc (length bytes) ≤ position_or_len (λ x. x == 10) (b ∷ bytes) →
     (length bytes ≤ position_or_len (λ x. x == 10) bytes → lines_of bytes ≡ bytes ∷ []) → lines_of (b ∷ bytes) ≡ (b ∷ bytes) ∷ []

@@ -1,18 +1,17 @@
 -- In the narrow language each statement is a transaction of its own, and no answer is a full file's or a deadlock's.
-use Rattle.std.proofs.Common.{◌≡◌, ℕ, false, ◌==◌, List, refl, Option, Some, None}
+use Rattle.std.proofs.Common.{ℕ, false, List, refl, Option, Some, None}
 use Rattle.std.specs.Option.{option_map, option_and_then}
 use Rattle.isp_plain.specs.declared.script.Place.{Place}
 use Rattle.isp_plain.specs.declared.script.Place.TheVariants as place
 use Rattle.isp_plain.specs.declared.statement.Statement.{Statement}
 use Rattle.isp_plain.specs.declared.value.Schema.{Schema}
-use Rattle.isp_plain.specs.Does.{definition_at, does}
-use Rattle.isp_plain.specs.Serial.{done, is_given}
-use Rattle.isp_plain.specs.Alone.{answer_to}
+use Rattle.isp_plain.specs.Does.{definition_at}
+use Rattle.isp_plain.specs.Serial.{done}
 use Rattle.isp_plain.specs.Tables.{Table}
 use Rattle.isp_plain.proofs.AloneLaws.{IsPlainLanguage}
 use Rattle.isp_plain.proofs.DoesLaws.{RefusesOwn, does_own}
 use Rattle.isp_plain.proofs.TextLaws.{own_not_given}
-use Rattle.isp_sql.specs.Meaning.{narrow, meaning, effect, built, not_built, statement_of, create_of, create_names, table_of_points, insert_of, insert_front, rows_in, select_of, select_front, line_value, search_of, or_else, column_name}
+use Rattle.isp_sql.specs.Meaning.{narrow, meaning, built, statement_of, create_of, create_names, table_of_points, insert_of, insert_front, rows_in, select_of, select_front, line_value, search_of, or_else, column_name}
 use Rattle.isp_sql.specs.Tokens.{tokens_of}
 use Rattle.isp_sql.specs.declared.token.Token.{Token}
 
@@ -46,7 +45,7 @@ session_own : (table : List ℕ) (schema : Schema) (tokens : List Token) →
     Own (or_else (insert_of table tokens) (option_and_then (λ column. select_of table column tokens) (column_name schema)))
 session_own table schema tokens =
     either (insert_of table tokens) _ (insert_own table tokens)
-      (chained (λ column. select_of table column tokens) (column_name schema) (λ column. select_own table column tokens))
+    (chained (λ column. select_of table column tokens) (column_name schema) (λ column. select_own table column tokens))
 
 statement_own : (known : Option (List ℕ × Schema)) (at : Place) (tokens : List Token) → Own (statement_of known at tokens)
 statement_own None place.Setup tokens = create_own tokens
@@ -68,7 +67,7 @@ meaning_own tables at text =
 pub narrow_is_plain : IsPlainLanguage narrow
 unfolding narrow
 narrow_is_plain = record {
-    effects = λ text. refl;
-    not_given = λ tables session number text.
-        own_not_given session number (done narrow tables session false text).reply (does_own tables _ (meaning_own tables _ text));
-  }
+  effects = λ text. refl;
+  not_given = λ tables session number text.
+      own_not_given session number (done narrow tables session false text).reply (does_own tables _ (meaning_own tables _ text));
+}

@@ -1,5 +1,5 @@
 -- Digits that are read with a cap on the value.
-use Rattle.std.proofs.Common.{◌≡◌, ℕ, ◌+◌, ◌-◌, ◌*◌, ◌^◌, ◌≤◌, List, [], ◌∷◌, min, arith}
+use Rattle.std.proofs.Common.{◌≡◌, ℕ, ◌+◌, ◌-◌, ◌*◌, ◌^◌, List, [], ◌∷◌, min, arith}
 use Rattle.isp_sql.specs.Phrases.{value_from}
 
 pub same_capped : (n m : ℕ) (digits : List ℕ) → min n (2 ^ 64 - 1) ≡ min m (2 ^ 64 - 1) →

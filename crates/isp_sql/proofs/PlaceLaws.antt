@@ -1,5 +1,5 @@
 -- The first place of a byte in a list, and what stands before and behind it.
-use Rattle.std.proofs.Common.{◌≡◌, ℕ, ◌<◌, ◌≤◌, ◌+◌, Bool, true, false, cond, nat_lt, List, [], length, take, drop, refl, ap, ◌∙◌, sym, arith, Option, Some, None, ◌⊎◌, inl, inr}
+use Rattle.std.proofs.Common.{◌≡◌, ℕ, ◌<◌, ◌≤◌, ◌+◌, Bool, true, false, cond, nat_lt, List, [], length, take, drop, refl, ap, sym, arith, Option, Some, None, ◌⊎◌, inl, inr}
 use Rattle.std.specs.List.{position, position_or_len, before_first, after_first}
 use Rattle.std.proofs.lemmas.Bool.Decides.{nat_tests}
 use Rattle.std.proofs.lemmas.List.{take_all, drop_all}
@@ -21,7 +21,6 @@ below_from_test n m is = grind (arith, nat_tests)
 
 not_below : (n m : ℕ) → nat_lt n m ≡ false → m ≤ n
 not_below n m is = grind (arith, nat_tests)
-
 
 -- a place that is found lies in the list, before all others
 pub found : (p : ℕ → Bool) (bytes : List ℕ) (place : ℕ) → position p bytes ≡ Some place → (position_or_len p bytes < length bytes) × (position_or_len p bytes ≡ place)

@@ -17,7 +17,7 @@ pub rows_step : (rows : List Row) (counted : Token) (others rest behind next : L
     in_front (rows ++ row ∷ []) (rows_in others next) ≡ in_front rows (rows_in (counted ∷ others) rest)
 rows_step rows counted others rest behind next row here more comma =
     in_front-push rows row (rows_in others next)
-      ∙ ap (in_front rows) (sym (ap (λ o. option_and_then (λ (r : Row × List Token). if is_empty r.1 then Some (r.0 ∷ [])
-          else in_front (r.0 ∷ []) (option_and_then (rows_in others) (after (map (λ part. part.now) COMMA) r.1))) o) here
-        ∙ (ap (λ b. if b then Some (row ∷ []) else in_front (row ∷ []) (option_and_then (rows_in others) (after (map (λ part. part.now) COMMA) behind))) more
-        ∙ ap (λ o. in_front (row ∷ []) (option_and_then (rows_in others) o)) comma)))
+    ∙ ap (in_front rows) (sym (ap (λ o. option_and_then (λ (r : Row × List Token). if is_empty r.1 then Some (r.0 ∷ [])
+    else in_front (r.0 ∷ []) (option_and_then (rows_in others) (after (map (λ part. part.now) COMMA) r.1))) o) here
+    ∙ (ap (λ b. if b then Some (row ∷ []) else in_front (row ∷ []) (option_and_then (rows_in others) (after (map (λ part. part.now) COMMA) behind))) more
+    ∙ ap (λ o. in_front (row ∷ []) (option_and_then (rows_in others) o)) comma)))

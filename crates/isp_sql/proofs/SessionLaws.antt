@@ -1,5 +1,5 @@
 -- A script that was read has at most one session, which is none of the setup.
-use Rattle.std.proofs.Common.{◌≡◌, ℕ, suc, ◌-◌, ◌<◌, Bool, true, false, ◌&&◌, ◌==◌, nat_lt, cond, List, [], ◌∷◌, refl, subst, arith, Option, Some, None, length, take, drop, slice_index, if◌then◌else◌}
+use Rattle.std.proofs.Common.{◌≡◌, ℕ, ◌-◌, Bool, true, false, ◌&&◌, ◌==◌, nat_lt, List, [], ◌∷◌, refl, subst, arith, Option, Some, None, length, take, drop, slice_index, if◌then◌else◌}
 use Rattle.std.specs.Str.{bytes_eq}
 use Rattle.std.proofs.lemmas.Bool.Decides.{nat_tests}
 use Rattle.isp_plain.specs.declared.script.Script.{Script}
@@ -46,9 +46,9 @@ number_known (a ∷ b ∷ c ∷ others) = tt
 word_known : (bytes : List ℕ) → IsKnown (word_line bytes)
 word_known bytes =
     chosen (bytes_eq bytes setup_word) line.Setup _ (λ _. tt)
-      (chosen (bytes_eq bytes schedule_word) line.Schedule _ (λ _. tt)
-        (chosen (bytes_eq bytes end_word) line.End _ (λ _. tt)
-          (chosen (bytes_eq (take 8 bytes) session_word) (session_number (drop 8 bytes)) line.Other (λ _. number_known (drop 8 bytes)) tt)))
+    (chosen (bytes_eq bytes schedule_word) line.Schedule _ (λ _. tt)
+    (chosen (bytes_eq bytes end_word) line.End _ (λ _. tt)
+    (chosen (bytes_eq (take 8 bytes) session_word) (session_number (drop 8 bytes)) line.Other (λ _. number_known (drop 8 bytes)) tt)))
 
 trimmed_known : (bytes : List ℕ) (n : ℕ) → IsKnown (trimmed_line bytes n)
 trimmed_known bytes n =

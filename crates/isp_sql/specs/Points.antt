@@ -1,6 +1,6 @@
 -- The texts of points and of lines of two points, as they are printed: upper case, no spaces but one between the
 -- coordinates of a point, no sign but a minus, no leading zeros. A coordinate is at most 1,073,741,824 in size.
-use Rattle.std.specs.Prelude.{ℕ, ◌-◌, ℤ, pos, neg_ℤ, Bool, true, false, not, ◌&&◌, ◌||◌, ◌==◌, nat_lt, nat_le, List, [], ◌∷◌, length, take, drop, slice_index, if◌then◌else◌, Option, Some, None, codes}
+use Rattle.std.specs.Prelude.{ℕ, ◌-◌, ℤ, pos, neg_ℤ, Bool, true, false, not, ◌&&◌, ◌||◌, ◌==◌, nat_lt, nat_le, List, length, take, drop, slice_index, if◌then◌else◌, Option, Some, None, codes}
 use Rattle.std.specs.Char.{is_ascii_digit}
 use Rattle.std.specs.List.{before_first, after_first, list_all}
 use Rattle.std.specs.Option.{option_and_then}

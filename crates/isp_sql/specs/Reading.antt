@@ -1,6 +1,6 @@
 -- Which lines are a script, read one after another: `setup` and its statements, at most one session and its statements,
 -- `schedule` and `end`. No word of a schedule is built yet.
-use Rattle.std.specs.Prelude.{ℕ, Bool, true, false, nat_lt, List, [], ◌∷◌, ◌++◌, length, take, if◌then◌else◌, Option, Some, None}
+use Rattle.std.specs.Prelude.{ℕ, false, nat_lt, List, [], ◌∷◌, ◌++◌, length, take, if◌then◌else◌, Option, Some, None}
 use Rattle.isp_plain.specs.declared.script.Script.{Script}
 use Rattle.isp_sql.specs.Lines.{line_of, lines_of}
 use Rattle.isp_sql.specs.declared.lines.Line.{Line}

@@ -1,6 +1,6 @@
 -- The tokens of a statement's text, read byte by byte; each token is as long as it can be. A text with a byte that is
 -- in no token, or with a string that does not end, has none.
-use Rattle.std.specs.Prelude.{ℕ, Bool, true, false, not, ◌&&◌, ◌||◌, ◌==◌, nat_lt, List, [], ◌∷◌, ◌++◌, if◌then◌else◌, Option, Some, None}
+use Rattle.std.specs.Prelude.{ℕ, Bool, not, ◌&&◌, ◌||◌, ◌==◌, nat_lt, List, [], ◌∷◌, ◌++◌, if◌then◌else◌, Option, Some, None}
 use Rattle.std.specs.Char.{is_ascii_digit, is_ascii_alphabetic}
 use Rattle.isp_sql.specs.Lines.{is_blank}
 use Rattle.isp_sql.specs.declared.token.Begun.{Begun}

@@ -9,24 +9,42 @@ use crate::point::{line_of, point_of};
 use crate::token::{Token, tokens_of};
 use isp_mbr::{Bytes, Duplicate, Name, Predicate, Test, union};
 use isp_plain::{
-    Atom, Atoms, Column, Columns, Condition, Geometry, Indices, Kind, Place, Plain, Point, Row, Rows,
-    Schema, Statement, Value, Values, box_of,
+    Atom, Atoms, Column, Columns, Condition, Geometry, Indices, Kind, Place, Plain, Point, Row,
+    Rows, Schema, Statement, Value, Values, box_of,
 };
 use std::alloc::{AllocError, Global};
 
 /// The fixed words and symbols of the statements that are built.
 static CREATE_TABLE: [&[u8]; 2] = [b"CREATE", b"TABLE"];
+
 static OPEN: [&[u8]; 1] = [b"("];
+
 static KEY_COLUMN: [&[u8]; 4] = [b"BIGINT", b"PRIMARY", b"KEY", b","];
+
 static INDEXED_COLUMN: [&[u8]; 9] = [
-    b"GEOMETRY", b"NOT", b"NULL", b"SRID", b"0", b",", b"SPATIAL", b"INDEX", b"(",
+    b"GEOMETRY",
+    b"NOT",
+    b"NULL",
+    b"SRID",
+    b"0",
+    b",",
+    b"SPATIAL",
+    b"INDEX",
+    b"(",
 ];
+
 static CLOSE_BOTH: [&[u8]; 2] = [b")", b")"];
+
 static INSERT_INTO: [&[u8]; 2] = [b"INSERT", b"INTO"];
+
 static VALUES: [&[u8]; 1] = [b"VALUES"];
+
 static FROM_TEXT: [&[u8]; 3] = [b",", b"ST_GeomFromText", b"("];
+
 static SELECT_FROM: [&[u8]; 3] = [b"SELECT", b"*", b"FROM"];
+
 static WHERE_INTERSECTS: [&[u8]; 3] = [b"WHERE", b"MBRIntersects", b"("];
+
 static COMMA: [&[u8]; 1] = [b","];
 
 fn key_column(tokens: &[Token]) -> Option<(&Bytes, &[Token])>
@@ -204,10 +222,7 @@ fn row_at(tokens: &[Token]) -> Option<(i64, Point, &[Token])>
     Some((key, point, rest))
 }
 
-fn row_value(
-    alloc: Global,
-    tokens: &[Token],
-) -> Result<Option<(Row, &[Token])>, AllocError>
+fn row_value(alloc: Global, tokens: &[Token]) -> Result<Option<(Row, &[Token])>, AllocError>
     ensures { IfOk result (λ row. option_map (λ p. (p.0, p.1.now)) row ≡ row_value tokens.now) }
 {
     let Some((key, point, rest)) = row_at(tokens) else {
@@ -248,11 +263,7 @@ fn rows_of(alloc: Global, tokens: &[Token]) -> Result<Option<Rows>, AllocError>
     Ok(None)
 }
 
-fn insert_of(
-    alloc: Global,
-    table: &Name,
-    tokens: &[Token],
-) -> Result<Option<Statement>, AllocError>
+fn insert_of(alloc: Global, table: &Name, tokens: &[Token]) -> Result<Option<Statement>, AllocError>
     ensures { IfOk result (λ s. s ≡ insert_of table.now tokens.now) }
 {
     let Some(rest) = insert_front(table, tokens) else {

@@ -32,11 +32,7 @@ fn with_sign(minus: bool, size: u64) -> i32
     requires { size ≤ 1073741824 }
     ensures { result ≡ with_sign minus size }
 {
-    if minus {
-        -(size as i32)
-    } else {
-        size as i32
-    }
+    if minus { -(size as i32) } else { size as i32 }
 }
 
 fn sized(minus: bool, digits: &[u8]) -> Option<i32>

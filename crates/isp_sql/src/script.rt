@@ -54,12 +54,7 @@ fn read_line(alloc: Global, reading: Reading, bytes: &[u8]) -> Result<Reading, A
 }
 
 // One line further.
-fn step(
-    alloc: Global,
-    reading: Reading,
-    line: Line,
-    bytes: &[u8],
-) -> Result<Reading, AllocError>
+fn step(alloc: Global, reading: Reading, line: Line, bytes: &[u8]) -> Result<Reading, AllocError>
     requires { IsWithin (length bytes.now) line }
     ensures { IfOk result (λ next. next ≡ step reading line bytes.now) }
 {

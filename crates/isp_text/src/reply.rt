@@ -46,11 +46,7 @@ fn push_coordinates(out: &mut Vec<u8>, alloc: Global, x: i32, y: i32) -> Result<
     Ok(())
 }
 
-fn push_geometry(
-    out: &mut Vec<u8>,
-    alloc: Global,
-    geometry: &Geometry,
-) -> Result<(), AllocError>
+fn push_geometry(out: &mut Vec<u8>, alloc: Global, geometry: &Geometry) -> Result<(), AllocError>
     ensures { OnOk result (out.new.items ≡ out.old.items ++ geometry_text geometry.now) }
 {
     match geometry {
@@ -189,12 +185,7 @@ fn push_duplicate(out: &mut Vec<u8>, alloc: Global, key: i64) -> Result<(), Allo
     Ok(())
 }
 
-fn push_refusal(
-    out: &mut Vec<u8>,
-    alloc: Global,
-    number: u32,
-    at: i64,
-) -> Result<(), AllocError>
+fn push_refusal(out: &mut Vec<u8>, alloc: Global, number: u32, at: i64) -> Result<(), AllocError>
     ensures { OnOk result (out.new.items ≡ out.old.items ++ refusal_text number at) }
 {
     match number {

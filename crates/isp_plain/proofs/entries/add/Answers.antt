@@ -12,6 +12,8 @@ returns-then-has_key c =
 pub returns : goal.returns
 returns c =
     let key = passed c.key_of-key.result (key_of c.args.row.now) c.key_of-key.type_inv c.key_of-key.ensures
-    in (sym (ap (λ k. has_key c.args.entries.now.entries k) key) ∙ (sym c.has_key.ensures ∙ c.if-has_key.false)
-    , c.in_ok-put.ensures.ok ∙ (ap (λ k. with_row c.args.entries.now.entries k c.in_ok-copy.copy) key
-        ∙ ap (λ r. with_row c.args.entries.now.entries (key_of c.args.row.now) r) c.in_ok-copy.ensures))
+    in (
+      sym (ap (λ k. has_key c.args.entries.now.entries k) key) ∙ (sym c.has_key.ensures ∙ c.if-has_key.false),
+      c.in_ok-put.ensures.ok ∙ (ap (λ k. with_row c.args.entries.now.entries k c.in_ok-copy.copy) key
+          ∙ ap (λ r. with_row c.args.entries.now.entries (key_of c.args.row.now) r) c.in_ok-copy.ensures),
+    )

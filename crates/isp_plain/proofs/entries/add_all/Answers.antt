@@ -1,5 +1,5 @@
-use Rattle.std.proofs.Common.{◌≡◌, ◌+◌, ◌∙◌, ℤ, List, ap, sym, subst, take}
-use Rattle.isp_plain.specs.Entries.{with_row, has_key, without_rows}
+use Rattle.std.proofs.Common.{◌+◌, ◌∙◌, ℤ, List, ap, sym, subst, take}
+use Rattle.isp_plain.specs.Entries.{without_rows}
 use Rattle.isp_plain.specs.Values.{key_of}
 use Rattle.isp_plain.specs.declared.value.Row.{Row}
 use Rattle.std.proofs.Common.{Some}
@@ -17,9 +17,10 @@ pub returns-in-Ok-false-clause-ok : goal.returns-in-Ok-false-clause-ok
 returns-in-Ok-false-clause-ok c =
     let found = rw c.in-Ok-false.field-0-test at c.in-Ok-false.ensures in
     let row = c.index-rows-i.result in
-    let key = passed c.key_of.result (key_of row) c.key_of.type_inv c.key_of.ensures in
-    (ap (λ k. Some k) key ∙ sym (adding_ends _ _ c.args.rows.now c.loop-i.i row c.loop-i-test.true c.index-rows-i.is found.0 c.loop-i.invariant)
-    , λ none. cc)
+    let key = passed c.key_of.result (key_of row) c.key_of.type_inv c.key_of.ensures in (
+      ap (λ k. Some k) key ∙ sym (adding_ends _ _ c.args.rows.now c.loop-i.i row c.loop-i-test.true c.index-rows-i.is found.0 c.loop-i.invariant),
+      λ none. cc,
+    )
 
 pub returns-in-Ok-false-clause-none : goal.returns-in-Ok-false-clause-none
 returns-in-Ok-false-clause-none c = λ some.

@@ -1,4 +1,4 @@
-use Rattle.std.proofs.Common.{◌≡◌, ◌+◌, ◌-◌, ◌∙◌, ◌≤◌, ◌<◌, [], ◌∷◌, ◌++◌, take, length, ap, sym, arith}
+use Rattle.std.proofs.Common.{◌≡◌, ◌-◌, ◌∙◌, ◌<◌, [], ◌∷◌, ◌++◌, take, length, ap, sym, arith}
 use Rattle.std.proofs.lemmas.List.{take_more}
 use Rattle.isp_plain.specs.Entries.{without_row, without_rows}
 use Rattle.isp_plain.specs.Values.{key_of}
@@ -14,8 +14,9 @@ loop-left-preserved c =
     let now = c.loop-left.entries.entries in
     let within : here < length rows = omega arith in
     let taken : take c.loop-left.left rows ≡ take here rows ++ row ∷ [] =
-        ap (λ n. take n rows) (omega arith) ∙ (take_more rows here row within ∙ ap (λ r. take here rows ++ r ∷ []) (sym c.index-rows-left.is)) in
-    let key = passed c.key_of.result (key_of row) c.key_of.type_inv c.key_of.ensures in
-    (omega arith
-    , ap (λ es. without_rows es (take here rows)) (c.remove.ensures ∙ ap (without_row now) key)
-        ∙ (sym (without_rows-push now (take here rows) row) ∙ (ap (without_rows now) (sym taken) ∙ c.loop-left.invariant.1)))
+    ap (λ n. take n rows) (omega arith) ∙ (take_more rows here row within ∙ ap (λ r. take here rows ++ r ∷ []) (sym c.index-rows-left.is)) in
+    let key = passed c.key_of.result (key_of row) c.key_of.type_inv c.key_of.ensures in (
+      omega arith,
+      ap (λ es. without_rows es (take here rows)) (c.remove.ensures ∙ ap (without_row now) key)
+          ∙ (sym (without_rows-push now (take here rows) row) ∙ (ap (without_rows now) (sym taken) ∙ c.loop-left.invariant.1)),
+    )

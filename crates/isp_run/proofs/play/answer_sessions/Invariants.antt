@@ -9,6 +9,6 @@ use Rattle.isp_run.proofs.play.answer_sessions.Given as goal
 abbrev pub invariant-loop-session : goal.invariant-loop-session
 invariant-loop-session g l =
     (told_behind (g.W.World.printed l.world) (flat_map line_of (sessions_answers narrow (drop l.session-index l.sessions) l.tables))
-      ≡ told_behind (g.W.World.printed l.fn.world) (flat_map line_of (sessions_answers narrow l.sessions l.fn.tables)))
+    ≡ told_behind (g.W.World.printed l.fn.world) (flat_map line_of (sessions_answers narrow l.sessions l.fn.tables)))
     × (AreSmall (drop l.session-index l.sessions) → AreSmall l.sessions)
     × (g.W.World.print_faults l.fn.world ≤ g.W.World.print_faults l.world)

@@ -9,6 +9,6 @@ use Rattle.isp_run.proofs.play.answer_texts.Given as goal
 abbrev pub invariant-loop-i : goal.invariant-loop-i
 invariant-loop-i g l =
     (told_behind (g.W.World.printed l.world) (flat_map line_of (answers_to narrow l.session (l.i + 1) (drop l.i l.texts) l.tables))
-      ≡ told_behind (g.W.World.printed l.fn.world) (flat_map line_of (answers_to narrow l.session 1 l.texts l.fn.tables)))
+    ≡ told_behind (g.W.World.printed l.fn.world) (flat_map line_of (answers_to narrow l.session 1 l.texts l.fn.tables)))
     × (tables_after narrow l.session (drop l.i l.texts) l.tables ≡ tables_after narrow l.session l.texts l.fn.tables)
     × (g.W.World.print_faults l.fn.world ≤ g.W.World.print_faults l.world)

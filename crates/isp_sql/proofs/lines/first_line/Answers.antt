@@ -7,7 +7,7 @@ use Rattle.isp_sql.proofs.lines.first_line.Goals as goal
 pub returns-in-Some-clause-lines : goal.returns-in-Some-clause-lines
 returns-in-Some-clause-lines c =
     cut_at c.args.bytes.now c.in-Some.end (sym c.in-Some.ensures.place)
-        ∙ ap (λ rest. take c.in-Some.end c.args.bytes.now ∷ lines_of rest) (sym (take_rest c.args.bytes.now (c.in-Some.end + 1)))
+    ∙ ap (λ rest. take c.in-Some.end c.args.bytes.now ∷ lines_of rest) (sym (take_rest c.args.bytes.now (c.in-Some.end + 1)))
 
 pub returns-in-None-clause-lines : goal.returns-in-None-clause-lines
 returns-in-None-clause-lines c = uncut c.args.bytes.now (sym c.in-None.ensures.place)

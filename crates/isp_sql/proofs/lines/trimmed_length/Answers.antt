@@ -1,6 +1,6 @@
-use Rattle.std.proofs.Common.{◌≡◌, ◌+◌, ◌-◌, ◌<◌, ◌≤◌, ◌∙◌, [], ◌∷◌, ◌++◌, length, take, get_or, ap, sym, arith}
+use Rattle.std.proofs.Common.{◌≡◌, ◌+◌, ◌-◌, ◌<◌, ◌∙◌, length, take, get_or, ap, sym, arith}
 use Rattle.std.proofs.lemmas.List.{take_more, length-take-le}
-use Rattle.isp_sql.specs.Lines.{trimmed_length, is_blank}
+use Rattle.isp_sql.specs.Lines.{trimmed_length}
 use Rattle.isp_sql.proofs.LineLaws.{trimmed_length-blank, trimmed_length-other}
 use Rattle.isp_sql.proofs.lines.trimmed_length.Goals as goal
 
@@ -9,10 +9,11 @@ loop-n-preserved c =
     let bytes = c.args.bytes.now in
     let before = c.loop-n.n - 1 in
     let within : before < length bytes = omega arith in
-    let whole : c.loop-n.n ≡ before + 1 = omega arith in
-    (omega arith
-    , sym (ap (λ n. trimmed_length (take n bytes)) whole ∙ (ap trimmed_length (take_more bytes before 0 within)
-        ∙ trimmed_length-blank (take before bytes) (get_or bytes before 0) (sym c.is_blank.ensures ∙ c.if-is_blank.true))) ∙ c.loop-n.invariant.1)
+    let whole : c.loop-n.n ≡ before + 1 = omega arith in (
+      omega arith,
+      sym (ap (λ n. trimmed_length (take n bytes)) whole ∙ (ap trimmed_length (take_more bytes before 0 within)
+          ∙ trimmed_length-blank (take before bytes) (get_or bytes before 0) (sym c.is_blank.ensures ∙ c.if-is_blank.true))) ∙ c.loop-n.invariant.1,
+    )
 
 pub returns-else-is_blank-clause-value : goal.returns-else-is_blank-clause-value
 returns-else-is_blank-clause-value c =
@@ -23,4 +24,4 @@ returns-else-is_blank-clause-value c =
     let front : length (take before bytes) ≡ before = length-take-le before bytes (omega arith) in
     let all : length (take before bytes) + 1 ≡ c.loop-n.n = omega arith in
     sym (sym c.loop-n.invariant.1 ∙ (ap (λ n. trimmed_length (take n bytes)) whole ∙ (ap trimmed_length (take_more bytes before 0 within)
-        ∙ (trimmed_length-other (take before bytes) (get_or bytes before 0) (sym c.is_blank.ensures ∙ c.if-is_blank.false) ∙ all))))
+    ∙ (trimmed_length-other (take before bytes) (get_or bytes before 0) (sym c.is_blank.ensures ∙ c.if-is_blank.false) ∙ all))))

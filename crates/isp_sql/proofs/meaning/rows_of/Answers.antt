@@ -1,11 +1,9 @@
-use Rattle.std.proofs.Common.{◌≡◌, ◌∙◌, ◌+◌, ◌∷◌, ◌++◌, [], List, ap, sym, drop, get_or, map, Option, Some, false}
+use Rattle.std.proofs.Common.{◌≡◌, ◌∙◌, ◌+◌, ap, sym, drop, get_or, map, Some, false}
 use Rattle.std.specs.Option.{option_map}
 use Rattle.std.proofs.lemmas.List.{drop_more}
-use Rattle.isp_plain.specs.declared.value.Row.{Row}
 use Rattle.isp_sql.specs.Meaning.{in_front, is_empty, row_value, rows_in}
 use Rattle.isp_sql.specs.Phrases.{after}
 use Rattle.isp_sql.specs.declared.meaning.TheConstants.{COMMA}
-use Rattle.isp_sql.specs.declared.token.Token.{Token}
 use Rattle.isp_sql.proofs.RowLaws.{rows_step}
 use Rattle.isp_sql.proofs.meaning.rows_of.Goals as goal
 
@@ -23,5 +21,5 @@ loop-counted-preserved c =
     let more : is_empty behind ≡ false = sym c.is_empty.ensures ∙ c.if-is_empty.false in
     let comma : after (map (λ part. part.now) COMMA) behind ≡ Some next = sym c.in-Some-after.ensures in
     ap (λ rows. in_front rows (rows_in others next)) c.in_ok-rows.ensures
-      ∙ (rows_step c.loop-counted.rows (get_or tokens i item) others rest behind next row here more comma
-      ∙ (sym (ap (λ counted. in_front c.loop-counted.rows (rows_in counted rest)) (drop_more tokens i item c.loop-counted-test.true)) ∙ c.loop-counted.invariant))
+    ∙ (rows_step c.loop-counted.rows (get_or tokens i item) others rest behind next row here more comma
+    ∙ (sym (ap (λ counted. in_front c.loop-counted.rows (rows_in counted rest)) (drop_more tokens i item c.loop-counted-test.true)) ∙ c.loop-counted.invariant))

@@ -1,4 +1,4 @@
-use Rattle.std.proofs.Common.{◌≡◌, ◌∙◌, ◌+◌, ◌-◌, ◌*◌, ◌^◌, ◌<◌, ◌∷◌, ap, sym, drop, length, get_or, min, arith}
+use Rattle.std.proofs.Common.{◌≡◌, ◌∙◌, ◌+◌, ◌-◌, ◌*◌, ◌^◌, ◌∷◌, ap, sym, drop, get_or, min, arith}
 use Rattle.std.proofs.lemmas.List.{drop_more, drop_all}
 use Rattle.isp_sql.specs.Phrases.{value_from}
 use Rattle.isp_sql.proofs.NumberLaws.{same_capped}
@@ -9,10 +9,11 @@ loop-digit-preserved c =
     let digits = c.args.digits.now in
     let i = c.loop-digit.digit-index in
     let value = c.loop-digit.value in
-    let rest : drop i digits ≡ get_or digits i 0 ∷ drop (i + 1) digits = drop_more digits i 0 c.loop-digit-test.true in
-    (omega arith
-    , same_capped c.with_digit-value.result (value * 10 + (get_or digits i 0 - 48)) (drop (i + 1) digits) (omega arith)
-        ∙ (sym (ap (λ ds. min (value_from value ds) (2 ^ 64 - 1)) rest) ∙ c.loop-digit.invariant.1))
+    let rest : drop i digits ≡ get_or digits i 0 ∷ drop (i + 1) digits = drop_more digits i 0 c.loop-digit-test.true in (
+      omega arith,
+      same_capped c.with_digit-value.result (value * 10 + (get_or digits i 0 - 48)) (drop (i + 1) digits) (omega arith)
+          ∙ (sym (ap (λ ds. min (value_from value ds) (2 ^ 64 - 1)) rest) ∙ c.loop-digit.invariant.1),
+    )
 
 pub returns : goal.returns
 returns c =

@@ -1,0 +1,69 @@
+#!/usr/bin/env python3
+"""Times the built program on growing scripts: many one-row INSERTs and one search, and 50 searches of growing tables.
+
+usage: bench/run.py [REPEATS]      (default: 3; the least time counts)
+
+Prints seconds, peak memory and, from size to size, the ratio of the seconds. A doubled size is to take at most 2.5
+times as long. Build the program first: ./isp builds it.
+"""
+import os
+import subprocess
+import sys
+import time
+
+TOP = os.path.dirname(os.path.dirname(os.path.abspath(__file__)))
+PROGRAM = os.path.join(TOP, "crates", "isp", "out", "isp")
+CREATE = "CREATE TABLE p (id BIGINT PRIMARY KEY, g GEOMETRY NOT NULL SRID 0, SPATIAL INDEX (g));\n"
+
+
+def insert(key):
+    return f"INSERT INTO p VALUES ({key},ST_GeomFromText('POINT({key % 1000} {key // 1000})'));\n"
+
+
+def search(size):
+    return f"SELECT * FROM p WHERE MBRIntersects(g, ST_GeomFromText('LINESTRING(0 0,{size} 1)'));\n"
+
+
+def inserts_and_a_search(rows):
+    return "setup\n" + CREATE + "session 1\n" + "".join(map(insert, range(1, rows + 1))) + search(9) + "schedule\nend\n"
+
+
+def fifty_searches(rows):
+    return "setup\n" + CREATE + "".join(map(insert, range(1, rows + 1))) + "session 1\n" + search(9) * 50 + "schedule\nend\n"
+
+
+def measure(script, repeats):
+    best, peak = None, 0
+    for _ in range(repeats):
+        begin = time.perf_counter()
+        done = subprocess.Popen([PROGRAM, "f", "run"], stdin=subprocess.PIPE, stdout=subprocess.DEVNULL)
+        done.stdin.write(script)
+        done.stdin.close()
+        _, status, usage = os.wait4(done.pid, 0)
+        seconds = time.perf_counter() - begin
+        if status != 0:
+            sys.exit(f"the program ended with status {status}")
+        best = seconds if best is None else min(best, seconds)
+        peak = max(peak, usage.ru_maxrss)
+    return best, peak
+
+
+def table(title, script_of, sizes, repeats):
+    print(title)
+    before = None
+    for size in sizes:
+        seconds, peak = measure(script_of(size).encode(), repeats)
+        ratio = "" if before is None else f"  x{seconds / before:.2f}"
+        print(f"  {size:>7}  {seconds:8.3f} s  {peak / 1024:8.1f} MiB{ratio}")
+        before = seconds
+
+
+def main():
+    if not os.path.exists(PROGRAM):
+        sys.exit("build the program first: ./isp")
+    repeats = int(sys.argv[1]) if len(sys.argv) > 1 else 3
+    table("one-row INSERTs, and one search", inserts_and_a_search, (20_000, 40_000, 80_000, 160_000), repeats)
+    table("50 searches of a table of rows", fifty_searches, (5_000, 10_000, 20_000, 40_000), repeats)
+
+
+main()
