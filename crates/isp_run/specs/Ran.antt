@@ -50,3 +50,12 @@ IsQuiet ReadFault = Unit {0}
 IsQuiet Done = ⊥
 IsQuiet PrintFault = ⊥
 IsQuiet OutOfMemory = ⊥
+
+-- what a run that meets no fault may end with
+abbrev pub IsDue : Status → Type 0
+IsDue Done = Unit {0}
+IsDue OutOfMemory = Unit {0}
+IsDue Usage = ⊥
+IsDue (BadScript line) = ⊥
+IsDue ReadFault = ⊥
+IsDue PrintFault = ⊥

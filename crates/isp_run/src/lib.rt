@@ -1,10 +1,10 @@
 //! The top call: the words and the script are read, the script is run, and its answers are printed.
 #![tactic(auto)]
 
-ghost use Rattle.std.specs.Prelude.{◌≡◌, ◌↔◌, ℕ, false, [], None, IfSome, IsSome, map, string_bytes};
+ghost use Rattle.std.specs.Prelude.{◌≡◌, ◌↔◌, ℕ, false, true, List, [], None, Some, IfSome, IsSome, map, string_bytes};
 ghost use Rattle.isp_disk.specs.Outside.{Rose};
 ghost use Rattle.isp_sql.specs.Reading.{script_of};
-ghost use Rattle.isp_run.specs.Ran.{IsQuiet, IsRead, RanOf};
+ghost use Rattle.isp_run.specs.Ran.{IsDue, IsQuiet, IsRead, RanOf};
 ghost use Rattle.isp_run.specs.Words.{is_run};
 
 mod input;
@@ -46,6 +46,10 @@ pub fn run<S: Source, W: World>(
     ensures read_fault { result.0 ≡ Status.ReadFault → Rose (S.faults script.old) (S.faults script.new) }
     ensures print_fault { result.0 ≡ Status.PrintFault → Rose (W.print_faults world) (W.print_faults result.1) }
 
+    // Good words and a good script, with no fault of the source or the world, are done, or find no memory.
+    ensures complete { (bytes : List ℕ) → S.left script.old ≡ Some bytes → IsSome (script_of bytes) → is_run (map string_bytes words.now) ≡ true
+        → ¬ Rose (S.faults script.old) (S.faults script.new) → ¬ Rose (W.print_faults world) (W.print_faults result.1) → IsDue result.0 }
+
     // Nothing is printed before the script was read.
     ensures quiet { IsQuiet result.0 → W.printed result.1 ≡ W.printed world }
 {
@@ -64,3 +68,6 @@ pub fn run<S: Source, W: World>(
         Err(Stop::Memory) => (Status::OutOfMemory, world),
     }
 }
+
+#[cfg(test)]
+mod tests;
