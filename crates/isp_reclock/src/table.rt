@@ -1,4 +1,7 @@
 //! The lock table.
+//!
+//! To ask looks up at most four modes of each transaction that holds something, and does not grow with the number of locks. To
+//! release or list goes once over the locks of all.
 
 ghost use Rattle.std.specs.Prelude.{◌≡◌, ◌↔◌, [], IsTrue, IfOk, OnOk, OnErr, IsPermutation};
 ghost use Rattle.std.specs.List.Sorted.{IsSorted};

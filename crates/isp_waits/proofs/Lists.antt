@@ -2,6 +2,7 @@
 use Rattle.std.proofs.Common.{◌≡◌, ◌≢◌, ◌∙◌, ◌<◌, ◌≤◌, ◌==◌, Bool, true, false, List, [], ◌∷◌, ℕ, sym, ap, subst, cond, map, filter, length, get_or, set, get_or-set_same, get_or-set_other, nat_eq, ⊎_elim}
 use Rattle.std.proofs.Math.ListN.{get_or-map}
 use Rattle.std.specs.List.{All}
+use Rattle.std.specs.List.Sorted.{IsStrictlyIncreasing}
 use Rattle.std.proofs.lemmas.Bool.{false≢true, or_cases, eqb-true, cases_lt}
 use Rattle.std.proofs.lemmas.List.{get_or_past, get_or_default}
 use Rattle.std.proofs.lemmas.List.Elements.{All-head, All-tail}
@@ -54,3 +55,19 @@ filter_from_turns R test s says (x ∷ xs) ys (b, t, y, call, zs, rest, is) =
     let told = says x b t y call in
     let kept = filter_from_turns R test s says xs zs (subst (λ u. RetainsInTurn R u xs zs) told.1 rest) in
     is ∙ ap (λ v. cond v (y ∷ zs) zs) told.0 ∙ ap (λ v. cond (test x) (v ∷ zs) zs) told.2 ∙ ap (λ v. cond (test x) (x ∷ v) v) kept
+
+rising_from : (xs : List ℕ) → IsStrictlyIncreasing xs → (k : ℕ) → k < length xs → k ≤ get_or xs k 0
+rising_from xs up zero lt = omega arith
+rising_from xs up (suc k) lt =
+    let next : k + 1 ≡ suc k = omega arith in
+    let low = rising_from xs up k (omega arith) in
+    let step = subst (λ j. get_or xs k 0 < get_or xs j 0) next (up k (omega arith)) in
+    omega arith
+
+-- rising numbers below n are at most n: what a caller of `wait` knows of its blockers
+pub few_rising : (xs : List ℕ) (n : ℕ) → IsStrictlyIncreasing xs → All (λ x. x < n) xs → length xs ≤ n
+few_rising [] n up below = omega arith
+few_rising (x ∷ xs) n up below =
+    let high = rising_from (x ∷ xs) up (length xs) (omega arith) in
+    let low = below (length xs) 0 (omega arith) in
+    omega arith
