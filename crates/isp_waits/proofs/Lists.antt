@@ -1,5 +1,5 @@
 -- The lists of a graph, as they are kept.
-use Rattle.std.proofs.Common.{◌≡◌, ◌≢◌, ◌∙◌, ◌<◌, ◌≤◌, ◌==◌, Bool, true, false, List, [], ◌∷◌, ℕ, sym, ap, subst, cond, map, filter, length, get_or, set, get_or-set_same, get_or-set_other, nat_eq, ⊎_elim}
+use Rattle.std.proofs.Common.{◌≡◌, ◌≢◌, ◌∙◌, ◌<◌, ◌≤◌, ◌==◌, Bool, true, false, List, [], ◌∷◌, ℕ, sym, ap, subst, cond, map, filter, length, get_or, set, get_or-set_same, get_or-set_other, nat_eq, ⊎_elim, arith, zero, suc, ◌+◌}
 use Rattle.std.proofs.Math.ListN.{get_or-map}
 use Rattle.std.specs.List.{All}
 use Rattle.std.specs.List.Sorted.{IsStrictlyIncreasing}
