@@ -1,0 +1,2 @@
+pub mod BlockerLemmas
+pub mod LockLemmas

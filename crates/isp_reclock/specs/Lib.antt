@@ -1,0 +1,5 @@
+pub mod Modes
+pub mod Tables
+pub mod Blockers
+pub mod Order
+pub mod Holders

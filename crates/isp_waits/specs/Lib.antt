@@ -1,0 +1,4 @@
+pub mod Graphs
+pub mod Cycles
+pub mod Victims
+pub mod Levels
