@@ -1,0 +1,9 @@
+//! The laws of searches over a tree that changes between their visits, each a public function with an empty body whose
+//! contract is the law.
+#![tactic(auto)]
+
+mod knowledge;
+mod reach;
+
+pub use knowledge::{law_add_keeps_known, law_beginning_knows, law_forgetting_keeps_known, law_found_all, law_place_keeps_known, law_raise_keeps_known, law_remove_keeps_known, law_split_keeps_known, law_visit_keeps_known};
+pub use reach::{law_add_keeps_covered, law_beginning_covers, law_place_keeps_covered, law_raise_keeps_covered, law_remove_keeps_covered, law_split_keeps_covered, law_visit_keeps_covered};
