@@ -7,3 +7,6 @@ pub mod SplitSearchLaws
 pub mod VisitSearchLaws
 pub mod PlaceSearchLaws
 pub mod FoundLaws
+pub mod VisitsEndLaws
+pub mod CoveredByTests
+pub mod WrongStepLaws
