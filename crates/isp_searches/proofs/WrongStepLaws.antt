@@ -1,14 +1,19 @@
 -- The nine wrong steps, the whole runs and the tests of inserts, by computation.
-use Rattle.std.proofs.Common.{◌≡◌, ℕ, List, [], ◌∷◌, refl}
+use Rattle.std.proofs.Common.{◌≡◌, inl, inr, ℕ, ℤ, pos, false, List, [], ◌∷◌, map, refl}
+use Rattle.std.specs.Prelude.{unsigned_abs}
+use Rattle.isp_rnode.specs.Lists.{Has}
 use Rattle.isp_rnode.specs.Tree.{Tree, page_at, numbers}
 use Rattle.isp_rnode.specs.Walk.{LinkedForest}
-use Rattle.isp_machine.specs.Steps.{raise}
+use Rattle.isp_machine.specs.Steps.{is_among}
+use Rattle.isp_machine.specs.Visit.{visit}
+use Rattle.isp_laws.proofs.ListLaws.{Has-map_of}
 use Rattle.isp_laws.specs.Examples.{four_points, five_points, seven_points, ExamplesFit}
 use Rattle.isp_laws.proofs.CheckLaws.{forest_by_tests, links_by_tests, once_by_test}
 use Rattle.isp_laws.proofs.ExampleLaws.{examples_fit}
-use Rattle.isp_searches.specs.WrongSteps.{overfull, eight_points, tall, WrongStepsMiss}
+use Rattle.isp_searches.specs.WrongSteps.{overfull, eight_points, tall, overtaken, finished, linkless, exchanged, skipped, on_the_root, has_run, half_percolated, too_far, pruned, WrongStepsMiss, RowsMissed}
 use Rattle.isp_searches.specs.WholeRuns.{RunsFit, TestsFit}
 use Rattle.isp_searches.proofs.CoveredByTests.{covered_done, covered_one, missed_done, missed_one}
+use Rattle.isp_searches.proofs.SeesLaws.{has_among, not_both}
 
 overfull_fit : LinkedForest overfull
 overfull_fit = record {
@@ -77,6 +82,25 @@ wrong_steps_miss = record {
   };
   leads_back = refl;
   remembers_early = refl;
+}
+
+-- a key that isn't found, by the test of its absolute value
+lacking : (k : ℤ) (ks : List ℤ) → is_among (map unsigned_abs ks) (unsigned_abs k) ≡ false → Has ks k → ⊥
+lacking k ks test h = not_both (is_among (map unsigned_abs ks) (unsigned_abs k)) (has_among (map unsigned_abs ks) (unsigned_abs k) (Has-map_of unsigned_abs ks k h)) test
+
+pub rows_missed : RowsMissed
+rows_missed = record {
+  right_links_ignored = record { done = refl; lies = record { p = 21; leaf = _; there = refl; level = refl; has = inl refl; to = refl }; wanted = refl; lacking = lacking (pos 5) (linkless.found) refl };
+  split_numbers_exchanged = record { done = refl; lies = record { p = 21; leaf = _; there = refl; level = refl; has = inl refl; to = refl }; wanted = refl; lacking = lacking (pos 5) ((visit exchanged [] 19 1 overtaken).found) refl };
+  seen_page_skipped = record { done = refl; lies = record { p = 21; leaf = _; there = refl; level = refl; has = inl refl; to = refl }; wanted = refl; lacking = lacking (pos 5) (skipped.found) refl };
+  not_copied_at_split = record { done = refl; lies = record { p = 21; leaf = _; there = refl; level = refl; has = inr (inr (inr (inl refl))); to = refl }; wanted = refl; lacking = lacking (pos 8) (finished.found) refl };
+  untested_at_split = refl;
+  not_copied_at_raise = record { done = refl; lies = record { p = 19; leaf = _; there = refl; level = refl; has = inr (inr (inr (inr (inl refl)))); to = refl }; wanted = refl; lacking = lacking (pos 5) (on_the_root.found) refl };
+  untested_at_raise = refl;
+  no_percolation = record { done = refl; lies = record { p = 20; leaf = _; there = refl; level = refl; has = inr (inr (inl refl)); to = refl }; wanted = refl; lacking = lacking (pos 6) (has_run.found) refl };
+  percolation_from_above_alone = record { done = refl; lies = record { p = 20; leaf = _; there = refl; level = refl; has = inr (inr (inl refl)); to = refl }; wanted = refl; lacking = lacking (pos 5) (half_percolated.found) refl };
+  link_with_present_counter = record { done = refl; lies = record { p = 20; leaf = _; there = refl; level = refl; has = inl refl; to = refl }; wanted = refl; lacking = lacking (pos 3) ((visit seven_points [] 21 2 too_far).found) refl };
+  within_pruned_by_cover = record { done = refl; lies = record { p = 19; leaf = _; there = refl; level = refl; has = inr (inr (inl refl)); to = refl }; wanted = refl; lacking = lacking (pos 5) (pruned.found) refl };
 }
 
 pub runs_fit : RunsFit

@@ -3,13 +3,12 @@ use Rattle.std.specs.Prelude.{◌≡◌, true, false, pos, List, [], ◌∷◌}
 use Rattle.isp_mbr.specs.Predicates.{satisfies}
 use Rattle.isp_mbr.specs.declared.predicate.Predicate.{Predicate}
 use Rattle.isp_mbr.specs.declared.predicate.Test.TheVariants.{Disjoint}
-use Rattle.isp_machine.specs.Search.{Search}
 use Rattle.isp_machine.specs.Attach.{is_tested, attached}
 use Rattle.isp_machine.specs.Visit.{begun}
 use Rattle.isp_laws.specs.Examples.{box, four_points, five_points, first_division}
 use Rattle.isp_laws.specs.SearchExamples.{meets_box, at}
 use Rattle.isp_searches.specs.SearchLaws.{Visits}
-use Rattle.isp_searches.specs.WrongSteps.{within_box}
+use Rattle.isp_searches.specs.WrongSteps.{within_box, has_run}
 
 abbrev pub apart_from_box : Predicate
 apart_from_box = record { test = Disjoint; q = box 0 0 9 9 }
@@ -22,10 +21,7 @@ pub record RunsFit : Type 0 where
   pub apart : Visits five_points 3 (begun five_points 1 2 apart_from_box) (at apart_from_box (17 ∷ 20 ∷ 19 ∷ []) [] (pos 3 ∷ pos 4 ∷ pos 2 ∷ []))
   pub all : Visits five_points 3 (begun five_points 1 2 (meets_box 0 0 10 10)) (at (meets_box 0 0 10 10) (17 ∷ 20 ∷ 19 ∷ []) [] (pos 3 ∷ pos 4 ∷ pos 1 ∷ pos 2 ∷ pos 5 ∷ []))
 
--- the search for what meets the box to (9,9), once it has run
-abbrev pub has_run : Search
-has_run = at (meets_box 0 0 9 9) (17 ∷ 19 ∷ []) [] (pos 1 ∷ pos 5 ∷ [])
-
+-- tests against the search for what meets the box to (9,9), once it has run
 pub record TestsFit : Type 0 where
   -- on the leaf
   pub on_leaf : is_tested five_points (17 ∷ 19 ∷ []) (box 9 1 9 1) has_run ≡ true

@@ -1,6 +1,7 @@
 -- Nine wrong steps, each on a tree of at most four pages: before it nothing is out of the search's reach, and after it a page
--- is that has to be visited. Eight are in the search or in what an insert does for it; the ninth prunes too much.
-use Rattle.std.specs.Prelude.{◌≡◌, ℕ, suc, ◌==◌, Bool, ◌&&◌, cond, Option, Some, None, List, [], ◌∷◌, ◌++◌, pos}
+-- is that has to be visited. So the search ends without a row that it looks for: one that was there, or one that another
+-- session places later without being stopped.
+use Rattle.std.specs.Prelude.{◌≡◌, ℕ, ℤ, true, false, ◌&&◌, cond, Option, Some, None, List, [], ◌∷◌, ◌++◌, pos}
 use Rattle.isp_mbr.specs.Corners.{Corners}
 use Rattle.isp_mbr.specs.Boxes.{covers}
 use Rattle.isp_mbr.specs.Predicates.{satisfies, may_hold}
@@ -13,10 +14,11 @@ use Rattle.isp_rnode.specs.Walk.{split_since, LinkedForest}
 use Rattle.isp_machine.specs.Steps.{is_among, entry_for, add, raise, split}
 use Rattle.isp_machine.specs.Place.{Division}
 use Rattle.isp_machine.specs.Search.{Search, Covered}
-use Rattle.isp_machine.specs.Attach.{lets_in_from, let_in, copied_at_raise, copied_at_split}
+use Rattle.isp_machine.specs.Attach.{lets_in_from, let_in, copied_at_split, is_tested}
 use Rattle.isp_machine.specs.Visit.{remembered, to_visit, looked_at, visit}
 use Rattle.isp_laws.specs.Examples.{box, point, four_points, five_points, seven_points, division, numbers_exchanged}
 use Rattle.isp_laws.specs.SearchExamples.{meets_box, at}
+use Rattle.isp_searches.specs.SearchLaws.{IsOnLeaf}
 
 -- ---- wrong visits, of the page that was taken off the stack with the number s
 
@@ -66,9 +68,9 @@ overfull = add (add five_points (17 ∷ 19 ∷ []) (box 9 1 9 1) (pos 6) 5) (17 
 abbrev pub after_split : Tree
 after_split = split overfull 19 17 division.left division.right 21
 
--- the seven points with (3,3) on page 19
+-- the seven points with (0,3) on page 19
 abbrev pub eight_points : Tree
-eight_points = add seven_points (17 ∷ 19 ∷ []) (box 3 3 3 3) (pos 8) 7
+eight_points = add seven_points (17 ∷ 19 ∷ []) (box 0 3 0 3) (pos 8) 7
 
 -- a root with one page below it, and two leaves below that
 abbrev pub tall : Tree
@@ -91,9 +93,9 @@ overtaken = at (meets_box 0 0 6 6) (17 ∷ []) ((19, 1) ∷ []) []
 abbrev pub finished : Search
 finished = at (meets_box 0 0 6 6) (17 ∷ 19 ∷ []) [] (pos 1 ∷ pos 5 ∷ [])
 
--- it remembers page 19 from before the split, whose box it could not be in after it; then (3,3) makes that box grow
+-- it remembers page 19 from before the split, whose box can't hold what it looks for after it; then (0,3) makes that box grow
 abbrev pub led_back : Search
-led_back = at (meets_box 2 3 8 4) (17 ∷ 19 ∷ []) ((19, 1) ∷ []) []
+led_back = at (meets_box 2 3 8 5) (17 ∷ 19 ∷ []) ((19, 1) ∷ []) []
 
 -- it remembers page 19 from before both of its splits
 abbrev pub twice_overtaken : Search
@@ -105,7 +107,37 @@ looks_below = at (meets_box 6 6 9 9) (17 ∷ []) [] []
 abbrev pub within_box : ℕ → ℕ → ℕ → ℕ → Predicate
 within_box x1 y1 x2 y2 = record { test = Within; q = box x1 y1 x2 y2 }
 
--- ---- what each wrong step does
+-- ---- what each wrong step makes of them
+
+abbrev pub linkless : Search
+linkless = without_link seven_points 19 (page_at seven_points 19) (record overtaken { stack = [] })
+
+abbrev pub exchanged : Tree
+exchanged = numbers_exchanged after_split 19 21
+
+abbrev pub skipped : Search
+skipped = skipping eight_points 19 1 (page_at eight_points 19) (record led_back { stack = [] })
+
+abbrev pub on_the_root : Search
+on_the_root = at (meets_box 0 0 6 6) (17 ∷ []) [] (pos 1 ∷ [])
+
+abbrev pub has_run : Search
+has_run = at (meets_box 0 0 9 9) (17 ∷ 19 ∷ []) [] (pos 1 ∷ pos 5 ∷ [])
+
+abbrev pub with_six : Tree
+with_six = add five_points (17 ∷ 20 ∷ []) (box 5 9 5 9) (pos 6) 5
+
+abbrev pub taller : Tree
+taller = add tall (17 ∷ 18 ∷ 20 ∷ []) (box 7 7 7 7) (pos 5) 4
+
+abbrev pub half_percolated : Search
+half_percolated = record looks_below { on = looks_below.on ++ percolated_from_above tall looks_below (box 7 7 7 7) (17 ∷ 18 ∷ 20 ∷ []) }
+
+abbrev pub too_far : Search
+too_far = with_present_counter seven_points 19 0 (page_at seven_points 19) (record twice_overtaken { stack = [] })
+
+abbrev pub pruned : Search
+pruned = pruning_by_cover five_points 17 (page_at five_points 17) (at (within_box 0 0 6 6) [] [] [])
 
 -- nothing is out of reach before the step, and something is after it
 pub record Breaks (before : Tree) (x : Search) (after : Tree) (y : Search) : Type 0 where
@@ -114,16 +146,38 @@ pub record Breaks (before : Tree) (x : Search) (after : Tree) (y : Search) : Typ
   pub missed : Covered after y → ⊥
 
 pub record WrongStepsMiss : Type 0 where
-  pub right_links_ignored : Breaks seven_points overtaken seven_points (without_link seven_points 19 (page_at seven_points 19) (record overtaken { stack = [] }))
-  pub split_numbers_exchanged : Breaks overfull overtaken (numbers_exchanged after_split 19 21) (copied_at_split 19 division.right 21 overtaken)
-  pub seen_page_skipped : Breaks eight_points led_back eight_points (skipping eight_points 19 1 (page_at eight_points 19) (record led_back { stack = [] }))
+  pub right_links_ignored : Breaks seven_points overtaken seven_points linkless
+  pub split_numbers_exchanged : Breaks overfull overtaken exchanged (copied_at_split 19 division.right 21 overtaken)
+  pub seen_page_skipped : Breaks eight_points led_back eight_points skipped
   pub not_copied_at_split : Breaks overfull finished after_split finished
-  pub not_copied_at_raise : Breaks four_points (at (meets_box 0 0 6 6) (17 ∷ []) [] (pos 1 ∷ [])) (raise four_points 19) (at (meets_box 0 0 6 6) (17 ∷ []) [] (pos 1 ∷ []))
-  pub no_percolation : Breaks five_points (at (meets_box 0 0 9 9) (17 ∷ 19 ∷ []) [] (pos 1 ∷ pos 5 ∷ [])) (add five_points (17 ∷ 20 ∷ []) (box 5 9 5 9) (pos 6) 5) (at (meets_box 0 0 9 9) (17 ∷ 19 ∷ []) [] (pos 1 ∷ pos 5 ∷ []))
-  pub percolation_from_above_alone : Breaks tall looks_below (add tall (17 ∷ 18 ∷ 20 ∷ []) (box 7 7 7 7) (pos 5) 4)
-      (record looks_below { on = looks_below.on ++ percolated_from_above tall looks_below (box 7 7 7 7) (17 ∷ 18 ∷ 20 ∷ []) })
-  pub link_with_present_counter : Breaks seven_points twice_overtaken seven_points (with_present_counter seven_points 19 0 (page_at seven_points 19) (record twice_overtaken { stack = [] }))
-  pub within_pruned_by_cover : Breaks five_points (at (within_box 0 0 6 6) [] ((17, 1) ∷ []) []) five_points (pruning_by_cover five_points 17 (page_at five_points 17) (at (within_box 0 0 6 6) [] [] []))
+  pub not_copied_at_raise : Breaks four_points on_the_root (raise four_points 19) on_the_root
+  pub no_percolation : Breaks five_points has_run with_six has_run
+  pub percolation_from_above_alone : Breaks tall looks_below taller half_percolated
+  pub link_with_present_counter : Breaks seven_points twice_overtaken seven_points too_far
+  pub within_pruned_by_cover : Breaks five_points (at (within_box 0 0 6 6) [] ((17, 1) ∷ []) []) five_points pruned
   -- how a search comes to remember a page that it is on, and one from before both splits
-  pub leads_back : let_in seven_points (17 ∷ 19 ∷ []) (box 3 3 3 3) (at (meets_box 2 3 8 4) (17 ∷ []) ((19, 1) ∷ []) []) ≡ led_back
+  pub leads_back : let_in seven_points (17 ∷ 19 ∷ []) (box 0 3 0 3) (at (meets_box 2 3 8 5) (17 ∷ []) ((19, 1) ∷ []) []) ≡ led_back
   pub remembers_early : visit (raise four_points 19) [] 17 0 (at (meets_box 0 0 10 10) [] ((17, 0) ∷ []) []) ≡ twice_overtaken
+
+-- ---- and what comes of it
+
+-- the search has nothing left to visit, and lacks a row that it looks for
+pub record Lacks (tree : Tree) (y : Search) (e : Entry) (key : ℤ) (number : ℕ) : Type 0 where
+  pub done : y.stack ≡ []
+  pub lies : IsOnLeaf tree e key number
+  pub wanted : satisfies y.predicate e.b ≡ true
+  pub lacking : Has y.found key → ⊥
+
+pub record RowsMissed : Type 0 where
+  pub right_links_ignored : Lacks seven_points linkless (point 5 5 5 4) (pos 5) 4
+  pub split_numbers_exchanged : Lacks exchanged (visit exchanged [] 19 1 overtaken) (point 5 5 5 4) (pos 5) 4
+  pub seen_page_skipped : Lacks eight_points skipped (point 5 5 5 4) (pos 5) 4
+  -- the next insert on the new page isn't tested
+  pub not_copied_at_split : Lacks (add after_split (17 ∷ 21 ∷ []) (box 6 6 6 6) (pos 8) 7) (let_in after_split (17 ∷ 21 ∷ []) (box 6 6 6 6) finished) (point 6 6 8 7) (pos 8) 7
+  pub untested_at_split : is_tested after_split (17 ∷ 21 ∷ []) (box 6 6 6 6) finished ≡ false
+  pub not_copied_at_raise : Lacks (add (raise four_points 19) (17 ∷ 19 ∷ []) (box 1 1 1 1) (pos 5) 4) (let_in (raise four_points 19) (17 ∷ 19 ∷ []) (box 1 1 1 1) on_the_root) (point 1 1 5 4) (pos 5) 4
+  pub untested_at_raise : is_tested (raise four_points 19) (17 ∷ 19 ∷ []) (box 1 1 1 1) on_the_root ≡ false
+  pub no_percolation : Lacks with_six has_run (point 5 9 6 5) (pos 6) 5
+  pub percolation_from_above_alone : Lacks taller half_percolated (point 7 7 5 4) (pos 5) 4
+  pub link_with_present_counter : Lacks seven_points (visit seven_points [] 21 2 too_far) (point 0 10 3 2) (pos 3) 2
+  pub within_pruned_by_cover : Lacks five_points pruned (point 5 5 5 4) (pos 5) 4
