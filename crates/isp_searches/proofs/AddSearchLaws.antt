@@ -1,9 +1,9 @@
 -- An entry that is added leaves a search covered, since the search percolates to each page whose box grows into what it looks
 -- for; and known, where the search is the session's own or does not look for the entry.
-use Rattle.std.proofs.Common.{◌≡◌, ◌⊎◌, inl, inr, ℕ, ℤ, ◌==◌, ◌≤◌, Bool, true, false, cond, Option, Some, None, List, [], ◌∷◌, ◌++◌, refl, ap, sym, ◌∙◌, arith, subst, eqb-true, eq-eqb, ◌||◌}
+use Rattle.std.proofs.Common.{◌≡◌, ◌⊎◌, inl, inr, ℕ, ℤ, ◌==◌, ◌≤◌, Bool, true, false, cond, Some, List, [], ◌∷◌, ◌++◌, refl, ap, sym, ◌∙◌, arith, subst, eqb-true, eq-eqb, ◌||◌}
 use Rattle.std.specs.List.{list_any}
 use Rattle.isp_mbr.specs.Corners.{Corners}
-use Rattle.isp_mbr.specs.Boxes.{IsBox, union, covers}
+use Rattle.isp_mbr.specs.Boxes.{union}
 use Rattle.isp_mbr.specs.Predicates.{satisfies, may_hold}
 use Rattle.isp_mbr.specs.declared.predicate.Predicate.{Predicate}
 use Rattle.isp_mbr.proofs.BoxLaws.{covers_refl}
@@ -14,15 +14,15 @@ use Rattle.isp_rnode.specs.Lists.{Has}
 use Rattle.isp_rnode.specs.Tree.{Page, Tree, page_at, counter, child_in, child_of}
 use Rattle.isp_rnode.specs.Forest.{Forest, IsBelow, IsPage}
 use Rattle.isp_rnode.specs.Walk.{onward}
-use Rattle.isp_machine.specs.Steps.{is_among, is_last, names, widened, added_to, add}
-use Rattle.isp_machine.specs.Place.{Names, IsPath, Stands}
+use Rattle.isp_machine.specs.Steps.{is_among, is_last, names, added_to, add}
+use Rattle.isp_machine.specs.Place.{Names, Stands}
 use Rattle.isp_machine.specs.Search.{Search, Item, Sees, IsOwn, Covered, Known}
 use Rattle.isp_machine.specs.Attach.{percolates, let_in, is_tested}
 use Rattle.isp_laws.proofs.ListLaws.{Has-append, Has-append_left, Has-append_right}
 use Rattle.isp_laws.proofs.PageLaws.{There, Before, before, after_each}
 use Rattle.isp_laws.proofs.ForestLaws.{child_there, named_not_root}
 use Rattle.isp_laws.proofs.RoundLaws.{rounded, counter-rounded, onward-rounded}
-use Rattle.isp_laws.proofs.AddLaws.{add-still, WasThere, IsNew, entry_of, naming_entry}
+use Rattle.isp_laws.proofs.AddLaws.{add-still, WasThere, entry_of, naming_entry}
 use Rattle.isp_searches.specs.SearchLaws.{MayPlace, item}
 use Rattle.isp_searches.proofs.SeesLaws.{among_has, has_among, not_both, IsThere, sees_same, remembered_same}
 use Rattle.isp_searches.proofs.PercolationLaws.{Entered, came_in, goes_on}

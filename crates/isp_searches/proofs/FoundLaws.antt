@@ -1,6 +1,6 @@
 -- A search that is covered and known, and has nothing left to visit, has found all: the boxes on the way down to an entry lie
 -- round its box, so each may hold the predicate, and the search is on each page of the way.
-use Rattle.std.proofs.Common.{◌≡◌, ◌⊎◌, inl, inr, ℕ, ℤ, zero, suc, ◌+◌, ◌<◌, ◌≤◌, ◌==◌, true, false, Some, List, [], refl, ap, sym, ◌∙◌, arith, subst, eqb-true}
+use Rattle.std.proofs.Common.{◌≡◌, ◌⊎◌, inl, inr, ℕ, ℤ, zero, suc, ◌+◌, ◌≤◌, ◌==◌, true, false, Some, List, [], refl, sym, arith, subst, eqb-true}
 use Rattle.isp_mbr.specs.Corners.{Corners}
 use Rattle.isp_mbr.specs.Boxes.{IsBox, covers}
 use Rattle.isp_mbr.specs.Predicates.{satisfies, may_hold}
@@ -10,7 +10,7 @@ use Rattle.isp_rnode.specs.declared.entry.Entry.{Entry}
 use Rattle.isp_rnode.specs.Lists.{Has}
 use Rattle.isp_rnode.specs.Tree.{Page, Tree, page_at}
 use Rattle.isp_rnode.specs.Forest.{Forest, IsBelow, IsPage}
-use Rattle.isp_machine.specs.Search.{Search, Item, Reached, Sees, IsOwn, Covered, Known}
+use Rattle.isp_machine.specs.Search.{Search, Item, Sees, IsOwn, Covered, Known}
 use Rattle.isp_laws.proofs.ForestLaws.{Above, above, below_root}
 use Rattle.isp_searches.specs.SearchLaws.{IsOnLeaf}
 

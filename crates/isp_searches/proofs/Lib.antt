@@ -10,3 +10,4 @@ pub mod FoundLaws
 pub mod VisitsEndLaws
 pub mod CoveredByTests
 pub mod WrongStepLaws
+pub mod LikeLaws

@@ -1,6 +1,6 @@
 -- Which pages a search percolates to: their box could not hold its predicate before the entry was added, and from a page that the
 -- search is on or percolates to, it goes on down the path wherever the next box grows into what it looks for.
-use Rattle.std.proofs.Common.{◌≡◌, ◌⊎◌, inl, inr, ℕ, suc, ◌+◌, ◌≤◌, ◌<◌, ◌==◌, Bool, true, false, cond, Option, Some, None, List, [], ◌∷◌, ◌++◌, refl, ap, sym, ◌∙◌, arith, subst, eqb-true, eq-eqb, ◌||◌, ◌&&◌}
+use Rattle.std.proofs.Common.{◌≡◌, ◌⊎◌, inl, inr, ℕ, suc, ◌+◌, ◌≤◌, ◌<◌, ◌==◌, Bool, true, false, cond, Option, Some, None, List, [], ◌∷◌, refl, ap, sym, ◌∙◌, arith, subst, eq-eqb, ◌||◌, ◌&&◌}
 use Rattle.std.specs.Prelude.{not}
 use Rattle.std.specs.List.{cons_option}
 use Rattle.isp_mbr.specs.Corners.{Corners}

@@ -4,7 +4,6 @@ use Rattle.isp_mbr.specs.Corners.{Corners}
 use Rattle.isp_mbr.specs.Boxes.{IsBox}
 use Rattle.isp_rnode.specs.Tree.{Tree}
 use Rattle.isp_rnode.specs.Forest.{Forest}
-use Rattle.isp_rnode.specs.Walk.{LinkedForest}
 use Rattle.isp_machine.specs.Steps.{add, raise, split}
 use Rattle.isp_machine.specs.Place.{Stands, Division, relieve, CanRaise, CanRelieve, place}
 use Rattle.isp_machine.specs.Search.{Search, Item, Covered, Known}

@@ -1,23 +1,22 @@
 -- A raised root leaves a search covered and known: it is copied to the page that takes the root's entries, where that may hold
 -- what it looks for.
-use Rattle.std.proofs.Common.{◌≡◌, ◌⊎◌, inl, inr, ℕ, ℤ, suc, ◌≤◌, ◌==◌, Bool, true, false, cond, Some, None, List, [], ◌∷◌, ◌++◌, refl, ap, sym, ◌∙◌, arith, subst, eq-eqb, eqb-true, ◌&&◌}
+use Rattle.std.proofs.Common.{◌≡◌, ◌⊎◌, inl, inr, ℕ, ℤ, suc, ◌≤◌, ◌==◌, Bool, true, false, cond, Some, List, [], ◌∷◌, ◌++◌, refl, ap, sym, ◌∙◌, arith, subst, eq-eqb, eqb-true, ◌&&◌}
 use Rattle.isp_mbr.specs.Corners.{Corners}
-use Rattle.isp_mbr.specs.Predicates.{satisfies, may_hold}
+use Rattle.isp_mbr.specs.Predicates.{may_hold}
 use Rattle.isp_mbr.proofs.BoxLaws.{both}
 use Rattle.isp_rnode.specs.declared.entry.Entry.{Entry}
-use Rattle.isp_rnode.specs.declared.entry.To.TheVariants.{Row}
 use Rattle.isp_rnode.specs.Lists.{Has}
-use Rattle.isp_rnode.specs.Tree.{Page, Tree, page_in, page_at, counter, ssn_of, child_of, least}
+use Rattle.isp_rnode.specs.Tree.{Page, Tree, page_at, counter, ssn_of, child_of, least}
 use Rattle.isp_rnode.specs.Forest.{Forest}
 use Rattle.isp_rnode.specs.Walk.{onward}
-use Rattle.isp_machine.specs.Steps.{is_among, put, entry_for, raised, raise}
+use Rattle.isp_machine.specs.Steps.{is_among, put, raised, raise}
 use Rattle.isp_machine.specs.Place.{Names, IsFree}
 use Rattle.isp_machine.specs.Search.{Search, Item, Sees, IsOwn, Covered, Known}
 use Rattle.isp_machine.specs.Attach.{copied, box_of, copied_at_raise}
 use Rattle.isp_laws.proofs.ListLaws.{Has-append, Has-append_left, Has-append_right}
 use Rattle.isp_laws.proofs.PageLaws.{page_in-put_same, page_in-put_other}
-use Rattle.isp_laws.proofs.ForestLaws.{same_page, counter_is}
-use Rattle.isp_laws.proofs.RaiseLaws.{IsPut, IsOther, put_or_other, apart, turned, lifted, moved, made, raise_onward, suc_not_zero}
+use Rattle.isp_laws.proofs.ForestLaws.{counter_is}
+use Rattle.isp_laws.proofs.RaiseLaws.{IsPut, put_or_other, apart, turned, lifted, moved, made, raise_onward}
 use Rattle.isp_searches.proofs.SeesLaws.{among_has, has_among, not_both, IsThere, sees_same, remembered_same}
 
 -- ---- a search that was copied

@@ -1,12 +1,11 @@
 -- An entry that is removed leaves a search covered and known, since no box shrinks and leaves only have less on them.
-use Rattle.std.proofs.Common.{◌≡◌, ◌⊎◌, inl, inr, ℕ, ℤ, ◌≤◌, true, Some, List, refl, ap, sym, ◌∙◌, arith, subst}
+use Rattle.std.proofs.Common.{◌≡◌, ℕ, ◌≤◌, List, refl, ap, sym, ◌∙◌, arith, subst}
 use Rattle.std.specs.Prelude.{not}
 use Rattle.isp_rnode.specs.declared.entry.Entry.{Entry}
 use Rattle.isp_rnode.specs.Lists.{Has}
-use Rattle.isp_rnode.specs.Tree.{Page, Tree, page_at, counter}
+use Rattle.isp_rnode.specs.Tree.{Page, Tree, counter}
 use Rattle.isp_rnode.specs.Walk.{onward}
 use Rattle.isp_machine.specs.Steps.{is_row, without, remove}
-use Rattle.isp_machine.specs.Place.{Names}
 use Rattle.isp_machine.specs.Search.{Search, Item, Sees, Covered, Known}
 use Rattle.isp_laws.proofs.ListLaws.{Has-filter}
 use Rattle.isp_laws.proofs.PageLaws.{Before, before, after_each}

@@ -1,12 +1,11 @@
 -- What a search sees where a tree changes and its walks stay, and what the tests of lists say.
-use Rattle.std.proofs.Common.{◌≡◌, ◌⊎◌, inl, inr, ℕ, ◌≤◌, ◌<◌, ◌==◌, Bool, true, false, cond, Option, Some, None, List, [], ◌∷◌, ◌++◌, refl, ap, sym, ◌∙◌, arith, subst, eqb-true, eq-eqb, ◌||◌}
+use Rattle.std.proofs.Common.{◌≡◌, inl, inr, ℕ, ◌≤◌, ◌==◌, Bool, true, false, cond, Option, Some, None, List, [], ◌∷◌, refl, ap, ◌∙◌, arith, subst, eqb-true, eq-eqb, ◌||◌}
 use Rattle.std.specs.Prelude.{nat_lt}
 use Rattle.std.proofs.lemmas.Bool.Decides.{nat_tests}
-use Rattle.isp_rnode.specs.declared.entry.Entry.{Entry}
 use Rattle.isp_rnode.specs.Lists.{Has}
 use Rattle.isp_rnode.specs.Tree.{Page, Tree, page_at, counter}
 use Rattle.isp_rnode.specs.Forest.{Forest, IsPage}
-use Rattle.isp_rnode.specs.Walk.{onward, split_since, IsWalk}
+use Rattle.isp_rnode.specs.Walk.{onward, split_since}
 use Rattle.isp_machine.specs.Steps.{is_among}
 use Rattle.isp_machine.specs.Search.{Search, Reached, Sees, IsRemembered}
 use Rattle.isp_laws.proofs.WalkLaws.{walk_same}

@@ -1,9 +1,9 @@
 -- A split leaves a search covered and known: what was within reach still is, the new page by the old one's right link, and a
 -- search on the page that was split is copied to the new one, where that may hold what it looks for.
-use Rattle.std.proofs.Common.{◌≡◌, ◌⊎◌, inl, inr, ℕ, ℤ, suc, ◌≤◌, ◌==◌, Bool, true, false, cond, Some, None, List, [], ◌∷◌, ◌++◌, refl, ap, sym, ◌∙◌, arith, subst, eq-eqb, eqb-true}
+use Rattle.std.proofs.Common.{◌≡◌, ◌⊎◌, inl, inr, ℕ, ℤ, ◌≤◌, ◌==◌, Bool, true, false, cond, Some, None, List, [], ◌∷◌, refl, ap, sym, ◌∙◌, arith, subst, eq-eqb, eqb-true}
 use Rattle.isp_mbr.specs.Corners.{Corners}
 use Rattle.isp_mbr.specs.Boxes.{covers}
-use Rattle.isp_mbr.specs.Predicates.{satisfies, may_hold}
+use Rattle.isp_mbr.specs.Predicates.{may_hold}
 use Rattle.isp_mbr.proofs.Pruning.{may_hold_grows}
 use Rattle.isp_rnode.specs.declared.entry.Entry.{Entry}
 use Rattle.isp_rnode.specs.declared.entry.To.TheVariants.{Row}
@@ -11,15 +11,13 @@ use Rattle.isp_rnode.specs.Lists.{Has}
 use Rattle.isp_rnode.specs.Tree.{Page, Tree, page_at, counter, child_in, child_of, least}
 use Rattle.isp_rnode.specs.Forest.{Forest, IsBelow}
 use Rattle.isp_rnode.specs.Walk.{IsWalk}
-use Rattle.isp_machine.specs.Steps.{names, entry_for, reboxed, split, put_after}
+use Rattle.isp_machine.specs.Steps.{names, reboxed, split, put_after}
 use Rattle.isp_machine.specs.Place.{Names, CanSplit}
 use Rattle.isp_machine.specs.Search.{Search, Item, Reached, Sees, IsRemembered, IsOwn, Covered, Known}
 use Rattle.isp_machine.specs.Attach.{copied, copied_at_split}
-use Rattle.isp_laws.proofs.PageLaws.{There}
 use Rattle.isp_laws.proofs.EntryLaws.{least_inside}
-use Rattle.isp_laws.proofs.ForestLaws.{same_page}
-use Rattle.isp_laws.proofs.RaiseLaws.{IsPut, apart, turned}
-use Rattle.isp_laws.proofs.SplitLaws.{Splitting, kept, gone, round, with_gone, after_split, split_is, n_not_o, below_above, at_n, IsRound, what, counter_grows, in_left, in_right, WasThere, IsNew, entry_of, Still, still_there}
+use Rattle.isp_laws.proofs.RaiseLaws.{apart, turned}
+use Rattle.isp_laws.proofs.SplitLaws.{Splitting, gone, round, after_split, split_is, n_not_o, below_above, at_n, what, counter_grows, in_left, in_right, entry_of, Still, still_there}
 use Rattle.isp_laws.proofs.SplitWalkLaws.{splitting, walk_after_split}
 use Rattle.isp_searches.proofs.SeesLaws.{not_both, IsThere}
 use Rattle.isp_searches.proofs.RaiseSearchLaws.{on_copied, still_on, on_new, free_not_on}
@@ -77,7 +75,11 @@ reach c x covered q r =
     record {
       now = record { from = r.from; ssn = r.ssn; remembered = r.remembered; rest = l.rest; walk = l.walk; on_it = l.more q r.on_it };
       new = λ at. record {
-        from = r.from; ssn = r.ssn; remembered = r.remembered; rest = l.rest; walk = l.walk;
+        from = r.from;
+        ssn = r.ssn;
+        remembered = r.remembered;
+        rest = l.rest;
+        walk = l.walk;
         on_it = l.new (subst (λ (z : ℕ). Has (r.from ∷ r.rest) z) at r.on_it);
       };
     }

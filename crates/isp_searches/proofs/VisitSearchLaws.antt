@@ -1,16 +1,16 @@
 -- A search begins covered, and a visit leaves it covered: what the visited page led to is passed on to its right link, and what
 -- stands on it is found, or remembered with the counter. It leaves it known, since a leaf gives all keys that satisfy at once.
-use Rattle.std.proofs.Common.{◌≡◌, ◌⊎◌, inl, inr, ℕ, ℤ, zero, suc, ◌≤◌, ◌==◌, Bool, true, false, cond, Option, Some, None, List, [], ◌∷◌, ◌++◌, refl, ap, sym, ◌∙◌, arith, subst, eq-eqb, eqb-true}
+use Rattle.std.proofs.Common.{◌≡◌, ◌⊎◌, inl, inr, ℕ, ℤ, ◌==◌, Bool, true, false, cond, Option, Some, None, List, [], ◌∷◌, ◌++◌, refl, ap, sym, ◌∙◌, arith, subst, eq-eqb}
 use Rattle.std.specs.Prelude.{is_none, nat_lt}
 use Rattle.isp_mbr.specs.Predicates.{satisfies, may_hold}
 use Rattle.isp_mbr.specs.declared.predicate.Predicate.{Predicate}
 use Rattle.isp_rnode.specs.declared.entry.Entry.{Entry}
 use Rattle.isp_rnode.specs.declared.entry.To.{To}
-use Rattle.isp_rnode.specs.declared.entry.To.TheVariants.{Child, Row}
+use Rattle.isp_rnode.specs.declared.entry.To.TheVariants.{Row}
 use Rattle.isp_rnode.specs.Lists.{Has}
-use Rattle.isp_rnode.specs.Tree.{Page, Tree, page_at, counter, child_in, child_of}
+use Rattle.isp_rnode.specs.Tree.{Page, Tree, page_at, counter, child_of}
 use Rattle.isp_rnode.specs.Forest.{Forest, IsPage, IsLinked}
-use Rattle.isp_rnode.specs.Walk.{onward, split_since, right_of, IsWalk}
+use Rattle.isp_rnode.specs.Walk.{onward, split_since, IsWalk}
 use Rattle.isp_machine.specs.Steps.{is_among}
 use Rattle.isp_machine.specs.Place.{Names}
 use Rattle.isp_machine.specs.Search.{Search, Item, Reached, Sees, IsRemembered, IsOwn, Covered, Known}
@@ -18,7 +18,7 @@ use Rattle.isp_machine.specs.Visit.{remembered, to_visit, key_in, to_find, begun
 use Rattle.isp_laws.proofs.ListLaws.{Has-append, Has-append_left, Has-append_right}
 use Rattle.isp_laws.proofs.PageLaws.{There}
 use Rattle.isp_laws.proofs.ForestLaws.{same_page, child_there}
-use Rattle.isp_searches.proofs.SeesLaws.{among_has, not_both, IsThere, stays_here}
+use Rattle.isp_searches.proofs.SeesLaws.{among_has, IsThere, stays_here}
 
 -- ---- the beginning
 

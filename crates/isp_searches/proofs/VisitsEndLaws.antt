@@ -1,9 +1,9 @@
 -- The visits of a search end: each comes to a page that is new to it, or it remembers fewer pages, or has one right link less
 -- before it.
-use Rattle.std.proofs.Common.{◌≡◌, ◌⊎◌, inl, inr, ℕ, zero, suc, ◌+◌, ◌<◌, ◌≤◌, ◌==◌, Bool, true, false, cond, Option, Some, None, List, [], ◌∷◌, ◌++◌, length, refl, ap, sym, ◌∙◌, arith, subst, eq-eqb, eqb-true, length-append}
+use Rattle.std.proofs.Common.{◌≡◌, ◌⊎◌, inl, inr, ℕ, zero, suc, ◌<◌, ◌≤◌, Bool, true, false, cond, Option, Some, None, List, [], ◌∷◌, ◌++◌, length, refl, ap, sym, ◌∙◌, arith, subst, length-append}
 use Rattle.std.specs.Prelude.{not, filter, nat_lt}
-use Rattle.isp_rnode.specs.Lists.{Has, times}
-use Rattle.isp_rnode.specs.Tree.{Page, Tree, page_in, page_at, counter, numbers}
+use Rattle.isp_rnode.specs.Lists.{Has}
+use Rattle.isp_rnode.specs.Tree.{Page, Tree, page_at, counter, numbers}
 use Rattle.isp_rnode.specs.Walk.{split_since, right_of, link, EndsAfter, Links, LinkedForest}
 use Rattle.isp_machine.specs.Steps.{is_among}
 use Rattle.isp_machine.specs.Search.{Search, IsRemembered, Covered}
@@ -130,16 +130,25 @@ behind_one tree y rest r s m is ends = λ rest' p' s' is'. (
 
 seen_nearer : (tree : Tree) (x : Search) (rest : List (ℕ × ℕ)) (p s : ℕ) (page : Page) → x.stack ≡ rest ++ (p, s) ∷ [] → page_at tree p ≡ Some page → (o : Option ℕ) → split_since s (Some page) ≡ o
     → ComesNearer tree x (record x { stack = rest ++ remembered s o })
-seen_nearer tree x rest p s page stack there None e = inr (refl, inl (
-    let was : length x.stack ≡ length (rest ++ (p, s) ∷ []) = ap (λ (st : List (ℕ × ℕ)). length st) stack in
-    omega (arith, was, length-append rest ((p, s) ∷ []), length-append rest [])))
+seen_nearer tree x rest p s page stack there None e = inr (
+  refl,
+  inl (
+      let was : length x.stack ≡ length (rest ++ (p, s) ∷ []) = ap (λ (st : List (ℕ × ℕ)). length st) stack in
+      omega (arith, was, length-append rest ((p, s) ∷ []), length-append rest [])),
+)
 seen_nearer tree x rest p s page stack there (Some r) e =
     let was : length x.stack ≡ length (rest ++ (p, s) ∷ []) = ap (λ (st : List (ℕ × ℕ)). length st) stack in
     let as_long : length (rest ++ (r, s) ∷ []) ≡ length x.stack = omega (arith, was, length-append rest ((p, s) ∷ []), length-append rest ((r, s) ∷ [])) in
     let to : link tree p ≡ Some r = ap right_of there ∙ next_of s page r e in
-    inr (refl, inr (as_long, λ n behind. (
-        let l : (m : ℕ) × (n ≡ suc m) × EndsAfter tree m r = one_less tree n p r to (behind rest p s stack) in
-        (l.0, l.1, behind_one tree (record x { stack = rest ++ (r, s) ∷ [] }) rest r s l.0 refl l.2))))
+    inr (
+      refl,
+      inr (
+        as_long,
+        λ n behind. (
+            let l : (m : ℕ) × (n ≡ suc m) × EndsAfter tree m r = one_less tree n p r to (behind rest p s stack) in
+            (l.0, l.1, behind_one tree (record x { stack = rest ++ (r, s) ∷ [] }) rest r s l.0 refl l.2)),
+      ),
+    )
 
 nearer_at : (tree : Tree) (x : Search) (rest : List (ℕ × ℕ)) (p s : ℕ) (page : Page) → x.stack ≡ rest ++ (p, s) ∷ [] → page_at tree p ≡ Some page
     → ComesNearer tree x (visited_at tree p s (Some page) (record x { stack = rest }))
@@ -216,7 +225,8 @@ by_links tree whole a l fewer_pages shorter (suc m) x covered pages stack behind
   ]
 ])
 
-links_behind : (tree : Tree) → Links tree → (x : Search) → (m : ℕ) × Behind tree x m
+-- some number of right links is behind the page that a search remembers last
+pub links_behind : (tree : Tree) → Links tree → (x : Search) → (m : ℕ) × Behind tree x m
 links_behind tree links x = elim (last_or_none x.stack) [
   | inl done ↦ (0, λ rest p s is. absurd (never_none rest (p, s) (sym done ∙ is)))
   | inr s ↦ (let e : (n : ℕ) × EndsAfter tree n (s.last).0 = links.ends (s.last).0 in (e.0, behind_one tree x s.front (s.last).0 (s.last).1 e.0 s.is e.1))

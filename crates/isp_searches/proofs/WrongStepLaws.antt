@@ -1,13 +1,13 @@
 -- The nine wrong steps, the whole runs and the tests of inserts, by computation.
-use Rattle.std.proofs.Common.{◌≡◌, inl, inr, ℕ, ℤ, pos, false, List, [], ◌∷◌, map, refl}
+use Rattle.std.proofs.Common.{◌≡◌, inl, inr, ℤ, pos, false, List, [], ◌∷◌, map, refl}
 use Rattle.std.specs.Prelude.{unsigned_abs}
 use Rattle.isp_rnode.specs.Lists.{Has}
-use Rattle.isp_rnode.specs.Tree.{Tree, page_at, numbers}
+use Rattle.isp_rnode.specs.Tree.{numbers}
 use Rattle.isp_rnode.specs.Walk.{LinkedForest}
 use Rattle.isp_machine.specs.Steps.{is_among}
 use Rattle.isp_machine.specs.Visit.{visit}
 use Rattle.isp_laws.proofs.ListLaws.{Has-map_of}
-use Rattle.isp_laws.specs.Examples.{four_points, five_points, seven_points, ExamplesFit}
+use Rattle.isp_laws.specs.Examples.{four_points, five_points, seven_points}
 use Rattle.isp_laws.proofs.CheckLaws.{forest_by_tests, links_by_tests, once_by_test}
 use Rattle.isp_laws.proofs.ExampleLaws.{examples_fit}
 use Rattle.isp_searches.specs.WrongSteps.{overfull, eight_points, tall, overtaken, finished, linkless, exchanged, skipped, on_the_root, has_run, half_percolated, too_far, pruned, WrongStepsMiss, RowsMissed}
@@ -107,10 +107,16 @@ pub runs_fit : RunsFit
 runs_fit = record {
   meeting = (_, record { rest = []; p = 17; s = 1; stack = refl; is = refl }, (_, record { rest = []; p = 19; s = 1; stack = refl; is = refl }, refl));
   within = (_, record { rest = []; p = 17; s = 1; stack = refl; is = refl }, (_, record { rest = []; p = 19; s = 1; stack = refl; is = refl }, refl));
-  apart = (_, record { rest = []; p = 17; s = 1; stack = refl; is = refl },
-      (_, record { rest = (19, 1) ∷ []; p = 20; s = 1; stack = refl; is = refl }, (_, record { rest = []; p = 19; s = 1; stack = refl; is = refl }, refl)));
-  all = (_, record { rest = []; p = 17; s = 1; stack = refl; is = refl },
-      (_, record { rest = (19, 1) ∷ []; p = 20; s = 1; stack = refl; is = refl }, (_, record { rest = []; p = 19; s = 1; stack = refl; is = refl }, refl)));
+  apart = (
+    _,
+    record { rest = []; p = 17; s = 1; stack = refl; is = refl },
+    (_, record { rest = (19, 1) ∷ []; p = 20; s = 1; stack = refl; is = refl }, (_, record { rest = []; p = 19; s = 1; stack = refl; is = refl }, refl)),
+  );
+  all = (
+    _,
+    record { rest = []; p = 17; s = 1; stack = refl; is = refl },
+    (_, record { rest = (19, 1) ∷ []; p = 20; s = 1; stack = refl; is = refl }, (_, record { rest = []; p = 19; s = 1; stack = refl; is = refl }, refl)),
+  );
 }
 
 pub tests_fit : TestsFit

@@ -53,6 +53,20 @@ PlaceKeepsCovered =
     → LinkedForest tree → Stands tree path → IsBox box → CanRelieve (add tree path box key number) q (reverse path) divisions → Covered tree x
     → Covered (place tree path box key number q divisions) (attached tree path box key number q divisions x)
 
+-- y is x with the pages that it is on and the keys that it found in any order, and any number of times
+pub record IsLike (x y : Search) : Type 0 where
+  pub session : x.session ≡ y.session
+  pub statement : x.statement ≡ y.statement
+  pub predicate : x.predicate ≡ y.predicate
+  pub stack : x.stack ≡ y.stack
+  pub on : (p : ℕ) → Has x.on p → Has y.on p
+  pub on_back : (p : ℕ) → Has y.on p → Has x.on p
+  pub found : (k : ℤ) → Has x.found k → Has y.found k
+  pub found_back : (k : ℤ) → Has y.found k → Has x.found k
+
+abbrev pub OrderLeavesCovered : Type 0
+OrderLeavesCovered = (tree : Tree) (x y : Search) → IsLike x y → Covered tree x → Covered tree y
+
 -- ---- what was visited stays known
 
 -- a session's statement may place an entry with that box on the last page of the path, as far as the search goes: if it is
@@ -105,6 +119,9 @@ ForgettingKeepsKnown =
     (tree : Tree) (x : Search) (items left : List Item)
     → ((i : Item) → Has items i → i.session ≡ x.session → Has left i) → Known tree x items → Known tree x left
 
+abbrev pub OrderLeavesKnown : Type 0
+OrderLeavesKnown = (tree : Tree) (x y : Search) (items : List Item) → IsLike x y → Known tree x items → Known tree y items
+
 -- ---- nothing is missed
 
 -- the entry lies on a leaf of the tree, as the row's of that key and with that number
@@ -152,7 +169,7 @@ abbrev pub ComesNearer : Tree → Search → Search → Type 0
 ComesNearer tree x y =
     (away tree y < away tree x)
     ⊎ (away tree y ≡ away tree x) × ((length y.stack < length x.stack)
-      ⊎ (length y.stack ≡ length x.stack) × ((n : ℕ) → Behind tree x n → (m : ℕ) × (n ≡ suc m) × Behind tree y m))
+    ⊎ (length y.stack ≡ length x.stack) × ((n : ℕ) → Behind tree x n → (m : ℕ) × (n ≡ suc m) × Behind tree y m))
 
 abbrev pub VisitComesNearer : Type 0
 VisitComesNearer = (tree : Tree) (x y : Search) → LinkedForest tree → Covered tree x → IsVisit tree x y → ComesNearer tree x y

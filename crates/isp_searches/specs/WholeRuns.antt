@@ -1,5 +1,5 @@
 -- Searches of the five points, run from the beginning to the end, and inserts that are tested against one of them.
-use Rattle.std.specs.Prelude.{◌≡◌, true, false, pos, List, [], ◌∷◌}
+use Rattle.std.specs.Prelude.{◌≡◌, true, false, pos, [], ◌∷◌}
 use Rattle.isp_mbr.specs.Predicates.{satisfies}
 use Rattle.isp_mbr.specs.declared.predicate.Predicate.{Predicate}
 use Rattle.isp_mbr.specs.declared.predicate.Test.TheVariants.{Disjoint}

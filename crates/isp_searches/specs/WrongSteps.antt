@@ -4,7 +4,7 @@
 use Rattle.std.specs.Prelude.{◌≡◌, ℕ, ℤ, true, false, ◌&&◌, cond, Option, Some, None, List, [], ◌∷◌, ◌++◌, pos}
 use Rattle.isp_mbr.specs.Corners.{Corners}
 use Rattle.isp_mbr.specs.Boxes.{covers}
-use Rattle.isp_mbr.specs.Predicates.{satisfies, may_hold}
+use Rattle.isp_mbr.specs.Predicates.{satisfies}
 use Rattle.isp_mbr.specs.declared.predicate.Predicate.{Predicate}
 use Rattle.isp_mbr.specs.declared.predicate.Test.TheVariants.{Within}
 use Rattle.isp_rnode.specs.declared.entry.Entry.{Entry}
@@ -12,10 +12,9 @@ use Rattle.isp_rnode.specs.Lists.{Has}
 use Rattle.isp_rnode.specs.Tree.{Page, Tree, page_at, counter, child_of}
 use Rattle.isp_rnode.specs.Walk.{split_since, LinkedForest}
 use Rattle.isp_machine.specs.Steps.{is_among, entry_for, add, raise, split}
-use Rattle.isp_machine.specs.Place.{Division}
 use Rattle.isp_machine.specs.Search.{Search, Covered}
 use Rattle.isp_machine.specs.Attach.{lets_in_from, let_in, copied_at_split, is_tested}
-use Rattle.isp_machine.specs.Visit.{remembered, to_visit, looked_at, visit}
+use Rattle.isp_machine.specs.Visit.{remembered, looked_at, visit}
 use Rattle.isp_laws.specs.Examples.{box, point, four_points, five_points, seven_points, division, numbers_exchanged}
 use Rattle.isp_laws.specs.SearchExamples.{meets_box, at}
 use Rattle.isp_searches.specs.SearchLaws.{IsOnLeaf}

@@ -1,6 +1,6 @@
 //! What a search has visited stays known, so that with nothing left to visit it has found all.
 
-ghost use Rattle.isp_searches.specs.SearchLaws.{BeginningKnows, VisitKeepsKnown, AddKeepsKnown, RaiseKeepsKnown, SplitKeepsKnown, RemoveKeepsKnown, PlaceKeepsKnown, ForgettingKeepsKnown, FoundAll};
+ghost use Rattle.isp_searches.specs.SearchLaws.{OrderLeavesKnown, BeginningKnows, VisitKeepsKnown, AddKeepsKnown, RaiseKeepsKnown, SplitKeepsKnown, RemoveKeepsKnown, PlaceKeepsKnown, ForgettingKeepsKnown, FoundAll};
 
 /// A search that has visited nothing misses nothing of it.
 pub fn law_beginning_knows()
@@ -40,6 +40,11 @@ pub fn law_place_keeps_known()
 /// What other sessions placed may be forgotten.
 pub fn law_forgetting_keeps_known()
     ensures { ForgettingKeepsKnown }
+{}
+
+/// The order of a search's pages, and of the keys that it found, says nothing of what it knows.
+pub fn law_order_leaves_known()
+    ensures { OrderLeavesKnown }
 {}
 
 /// A search with nothing left to visit has found all.

@@ -8,6 +8,14 @@ mod progress;
 mod reach;
 
 pub use examples::{law_rows_missed, law_runs_fit, law_tests_fit, law_wrong_steps_miss};
-pub use knowledge::{law_add_keeps_known, law_beginning_knows, law_forgetting_keeps_known, law_found_all, law_place_keeps_known, law_raise_keeps_known, law_remove_keeps_known, law_split_keeps_known, law_visit_keeps_known};
+pub use knowledge::{
+    law_add_keeps_known, law_beginning_knows, law_forgetting_keeps_known, law_found_all,
+    law_order_leaves_known, law_place_keeps_known, law_raise_keeps_known, law_remove_keeps_known,
+    law_split_keeps_known, law_visit_keeps_known,
+};
 pub use progress::{law_visit_comes_nearer, law_visits_end};
-pub use reach::{law_add_keeps_covered, law_beginning_covers, law_place_keeps_covered, law_raise_keeps_covered, law_remove_keeps_covered, law_split_keeps_covered, law_visit_keeps_covered};
+pub use reach::{
+    law_add_keeps_covered, law_beginning_covers, law_order_leaves_covered, law_place_keeps_covered,
+    law_raise_keeps_covered, law_remove_keeps_covered, law_split_keeps_covered,
+    law_visit_keeps_covered,
+};

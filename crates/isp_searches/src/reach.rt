@@ -1,6 +1,6 @@
 //! Nothing that a search could find gets out of its reach, whatever comes between its visits.
 
-ghost use Rattle.isp_searches.specs.SearchLaws.{BeginningCovers, VisitKeepsCovered, AddKeepsCovered, RaiseKeepsCovered, SplitKeepsCovered, RemoveKeepsCovered, PlaceKeepsCovered};
+ghost use Rattle.isp_searches.specs.SearchLaws.{OrderLeavesCovered, BeginningCovers, VisitKeepsCovered, AddKeepsCovered, RaiseKeepsCovered, SplitKeepsCovered, RemoveKeepsCovered, PlaceKeepsCovered};
 
 /// A search begins with nothing out of its reach.
 pub fn law_beginning_covers()
@@ -35,4 +35,9 @@ pub fn law_remove_keeps_covered()
 /// So does a placing, whatever pages are divided, and how.
 pub fn law_place_keeps_covered()
     ensures { PlaceKeepsCovered }
+{}
+
+/// The order of a search's pages says nothing of its reach.
+pub fn law_order_leaves_covered()
+    ensures { OrderLeavesCovered }
 {}
