@@ -66,6 +66,20 @@ copied_up tree q (o ∷ []) (d ∷ ds) x = copied_at_split q d.right d.page (cop
 copied_up tree q (o ∷ above ∷ up) (d ∷ ds) x =
     copied_up (split tree o above d.left d.right d.page) q (above ∷ up) ds (copied_at_split o d.right d.page x)
 
+-- the same in the order of an engine that changes the whole tree first: to the page of the raised root, if there is one, and
+-- then to the new pages of the splits from the leaf up
+abbrev pub copied_to_raised : Tree → ℕ → List ℕ → List Division → Search → Search
+copied_to_raised tree q up [] x = x
+copied_to_raised tree q [] (d ∷ ds) x = x
+copied_to_raised tree q (o ∷ []) (d ∷ ds) x = copied_at_raise tree q x
+copied_to_raised tree q (o ∷ above ∷ up) (d ∷ ds) x = copied_to_raised (split tree o above d.left d.right d.page) q (above ∷ up) ds x
+
+abbrev pub copied_to_parts : ℕ → List ℕ → List Division → Search → Search
+copied_to_parts q up [] x = x
+copied_to_parts q [] (d ∷ ds) x = x
+copied_to_parts q (o ∷ []) (d ∷ ds) x = copied_at_split q d.right d.page x
+copied_to_parts q (o ∷ above ∷ up) (d ∷ ds) x = copied_to_parts q (above ∷ up) ds (copied_at_split o d.right d.page x)
+
 -- the search after an entry was placed
 abbrev pub attached : Tree → List ℕ → Corners → ℤ → ℕ → ℕ → List Division → Search → Search
 attached tree path b key number q ds x = copied_up (add tree path b key number) q (reverse path) ds (let_in tree path b x)

@@ -11,3 +11,4 @@ pub mod VisitsEndLaws
 pub mod CoveredByTests
 pub mod WrongStepLaws
 pub mod LikeLaws
+pub mod CopyOrderLaws

@@ -22,13 +22,13 @@ use Rattle.isp_searches.proofs.SeesLaws.{among_has, has_among, not_both, IsThere
 -- ---- a search that was copied
 
 -- it is on the pages that it was on, and on the new one where it was on the old one and the box may hold its predicate
-pub on_copied : (p q : ℕ) (box : Corners) (x : Search) (r : ℕ) → Has (copied p q box x).on r → Has x.on r ⊎ ((q ≡ r) × Has x.on p)
+pub on_copied : (p q : ℕ) (box : Corners) (x : Search) (r : ℕ) → Has (copied p q box x).on r → Has x.on r ⊎ ((q ≡ r) × Has x.on p × (may_hold x.predicate box ≡ true))
 on_copied p q box x r h =
-    elim (is_among x.on p && may_hold x.predicate box) as (λ t. (is_among x.on p && may_hold x.predicate box) ≡ t → Has (cond t (x.on ++ q ∷ []) x.on) r → Has x.on r ⊎ ((q ≡ r) × Has x.on p)) [
+    elim (is_among x.on p && may_hold x.predicate box) as (λ t. (is_among x.on p && may_hold x.predicate box) ≡ t → Has (cond t (x.on ++ q ∷ []) x.on) r → Has x.on r ⊎ ((q ≡ r) × Has x.on p × (may_hold x.predicate box ≡ true))) [
       | true ↦ λ t k. (let is : (is_among x.on p ≡ true) × (may_hold x.predicate box ≡ true) = both (is_among x.on p) (may_hold x.predicate box) t in
           elim (Has-append x.on (q ∷ []) r k) [
             | inl on ↦ inl on
-            | inr new ↦ elim new [ inl here ↦ inr (here, among_has x.on p is.0) | inr none ↦ absurd none ]
+            | inr new ↦ elim new [ inl here ↦ inr (here, among_has x.on p is.0, is.1) | inr none ↦ absurd none ]
           ])
       | false ↦ λ t k. inl k
     ] refl h

@@ -25,7 +25,7 @@ use Rattle.isp_searches.proofs.RaiseSearchLaws.{on_copied, still_on, on_new, fre
 abbrev after : Splitting → Search → Search
 after c x = copied c.o c.n (least c.right) x
 
-still : (c : Splitting) (p : ℕ) → IsThere c.tree p → IsThere (after_split c) p
+pub still : (c : Splitting) (p : ℕ) → IsThere c.tree p → IsThere (after_split c) p
 still c p t = let s : Still c p (t.0).level = still_there c p t.0 t.1 in (s.page, s.there)
 
 -- ---- walks

@@ -101,6 +101,7 @@ rows_missed = record {
   percolation_from_above_alone = record { done = refl; lies = record { p = 20; leaf = _; there = refl; level = refl; has = inr (inr (inl refl)); to = refl }; wanted = refl; lacking = lacking (pos 5) (half_percolated.found) refl };
   link_with_present_counter = record { done = refl; lies = record { p = 20; leaf = _; there = refl; level = refl; has = inl refl; to = refl }; wanted = refl; lacking = lacking (pos 3) ((visit seven_points [] 21 2 too_far).found) refl };
   within_pruned_by_cover = record { done = refl; lies = record { p = 19; leaf = _; there = refl; level = refl; has = inr (inr (inl refl)); to = refl }; wanted = refl; lacking = lacking (pos 5) (pruned.found) refl };
+  not_stopped = record { done = refl; lies = record { p = 20; leaf = _; there = refl; level = refl; has = inr (inr (inl refl)); to = refl }; wanted = refl; lacking = lacking (pos 6) has_run.found refl };
 }
 
 pub runs_fit : RunsFit

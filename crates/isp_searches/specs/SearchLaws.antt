@@ -15,7 +15,7 @@ use Rattle.isp_rnode.specs.Walk.{EndsAfter, LinkedForest}
 use Rattle.isp_machine.specs.Steps.{is_among, add, raise, split, remove}
 use Rattle.isp_machine.specs.Place.{Stands, IsFree, CanSplit, CanRelieve, Division, place}
 use Rattle.isp_machine.specs.Search.{Search, Item, IsOwn, Covered, Known}
-use Rattle.isp_machine.specs.Attach.{let_in, copied_at_raise, copied_at_split, attached, is_tested}
+use Rattle.isp_machine.specs.Attach.{let_in, copied_at_raise, copied_at_split, copied_up, copied_to_raised, copied_to_parts, attached, is_tested}
 use Rattle.isp_machine.specs.Visit.{begun, visit}
 
 -- ---- nothing gets out of reach
@@ -66,6 +66,12 @@ pub record IsLike (x y : Search) : Type 0 where
 
 abbrev pub OrderLeavesCovered : Type 0
 OrderLeavesCovered = (tree : Tree) (x y : Search) → IsLike x y → Covered tree x → Covered tree y
+
+-- a search may be copied to the page of the raised root first
+abbrev pub RaiseMayComeFirst : Type 0
+RaiseMayComeFirst =
+    (tree : Tree) (q : ℕ) (up : List ℕ) (divisions : List Division) (x : Search) → Forest tree → CanRelieve tree q up divisions
+    → IsLike (copied_up tree q up divisions x) (copied_to_parts q up divisions (copied_to_raised tree q up divisions x))
 
 -- ---- what was visited stays known
 

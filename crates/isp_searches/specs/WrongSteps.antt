@@ -180,3 +180,5 @@ pub record RowsMissed : Type 0 where
   pub percolation_from_above_alone : Lacks taller half_percolated (point 7 7 5 4) (pos 5) 4
   pub link_with_present_counter : Lacks seven_points (visit seven_points [] 21 2 too_far) (point 0 10 3 2) (pos 3) 2
   pub within_pruned_by_cover : Lacks five_points pruned (point 5 5 5 4) (pos 5) 4
+  -- an insert that is tested and isn't stopped, though its box satisfies
+  pub not_stopped : Lacks with_six (let_in five_points (17 ∷ 20 ∷ []) (box 5 9 5 9) has_run) (point 5 9 6 5) (pos 6) 5

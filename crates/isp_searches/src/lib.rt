@@ -16,6 +16,6 @@ pub use knowledge::{
 pub use progress::{law_visit_comes_nearer, law_visits_end};
 pub use reach::{
     law_add_keeps_covered, law_beginning_covers, law_order_leaves_covered, law_place_keeps_covered,
-    law_raise_keeps_covered, law_remove_keeps_covered, law_split_keeps_covered,
-    law_visit_keeps_covered,
+    law_raise_keeps_covered, law_raise_may_come_first, law_remove_keeps_covered,
+    law_split_keeps_covered, law_visit_keeps_covered,
 };

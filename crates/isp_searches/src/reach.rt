@@ -1,6 +1,6 @@
 //! Nothing that a search could find gets out of its reach, whatever comes between its visits.
 
-ghost use Rattle.isp_searches.specs.SearchLaws.{OrderLeavesCovered, BeginningCovers, VisitKeepsCovered, AddKeepsCovered, RaiseKeepsCovered, SplitKeepsCovered, RemoveKeepsCovered, PlaceKeepsCovered};
+ghost use Rattle.isp_searches.specs.SearchLaws.{RaiseMayComeFirst, OrderLeavesCovered, BeginningCovers, VisitKeepsCovered, AddKeepsCovered, RaiseKeepsCovered, SplitKeepsCovered, RemoveKeepsCovered, PlaceKeepsCovered};
 
 /// A search begins with nothing out of its reach.
 pub fn law_beginning_covers()
@@ -40,4 +40,9 @@ pub fn law_place_keeps_covered()
 /// The order of a search's pages says nothing of its reach.
 pub fn law_order_leaves_covered()
     ensures { OrderLeavesCovered }
+{}
+
+/// A search may be copied to the page of the raised root before it is copied to the new pages of splits.
+pub fn law_raise_may_come_first()
+    ensures { RaiseMayComeFirst }
 {}
