@@ -119,21 +119,21 @@ abbrev is_widened : List ℕ → Entry → Bool
 is_widened path e = names (is_among path) (child_of e)
 
 -- an entry of a page after the step: one that was there, grown or not, or the new one on the last page of the path
-record WasThere (path : List ℕ) (box : Corners) (page : Page) (e : Entry) : Type 0 where
-  old : Entry
-  has : Has page.entries old
-  is : widened path box old ≡ e
+pub record WasThere (path : List ℕ) (box : Corners) (page : Page) (e : Entry) : Type 0 where
+  pub old : Entry
+  pub has : Has page.entries old
+  pub is : widened path box old ≡ e
 
-record IsNew (path : List ℕ) (box : Corners) (key : ℤ) (number q : ℕ) (e : Entry) : Type 0 where
-  last : is_last path q ≡ true
-  is : record { b = box; to = Row key number } ≡ e
+pub record IsNew (path : List ℕ) (box : Corners) (key : ℤ) (number q : ℕ) (e : Entry) : Type 0 where
+  pub last : is_last path q ≡ true
+  pub is : record { b = box; to = Row key number } ≡ e
 
 new_at : (path : List ℕ) (box : Corners) (key : ℤ) (number q : ℕ) (e : Entry) (b : Bool) → is_last path q ≡ b → Has (fresh b box key number) e → IsNew path box key number q e
 new_at path box key number q e true t (inl same) = record { last = t; is = same }
 new_at path box key number q e true t (inr none) = absurd none
 new_at path box key number q e false t h = absurd h
 
-entry_of : (path : List ℕ) (box : Corners) (key : ℤ) (number q : ℕ) (page : Page) (e : Entry) → Has (added_to path box key number q page).entries e
+pub entry_of : (path : List ℕ) (box : Corners) (key : ℤ) (number q : ℕ) (page : Page) (e : Entry) → Has (added_to path box key number q page).entries e
     → WasThere path box page e ⊎ IsNew path box key number q e
 entry_of path box key number q page e h =
     elim (Has-append (map (widened path box) page.entries) (fresh (is_last path q) box key number) e h) [
@@ -142,7 +142,7 @@ entry_of path box key number q page e h =
     ]
 
 -- an entry that names a page was there
-naming_entry : (path : List ℕ) (box : Corners) (key : ℤ) (number q c : ℕ) (page : Page) (e : Entry) → Has (added_to path box key number q page).entries e
+pub naming_entry : (path : List ℕ) (box : Corners) (key : ℤ) (number q c : ℕ) (page : Page) (e : Entry) → Has (added_to path box key number q page).entries e
     → child_of e ≡ Some c → WasThere path box page e
 naming_entry path box key number q c page e h to =
     elim (entry_of path box key number q page e h) [

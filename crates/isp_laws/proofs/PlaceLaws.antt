@@ -23,7 +23,7 @@ raised_page tree forest q free =
     ∙ page_in-put_same q (moved forest.top) tree.pages
 
 -- a page that was divided had two entries, so its root could be raised
-can_raise : (tree : Tree) (forest : Forest tree) (q o n : ℕ) (left right : List Entry) → IsFree tree q → CanSplit (raise tree q) q o left right n → CanRaise tree q
+pub can_raise : (tree : Tree) (forest : Forest tree) (q o n : ℕ) (left right : List Entry) → IsFree tree q → CanSplit (raise tree q) q o left right n → CanRaise tree q
 can_raise tree forest q o n left right free can = record {
   free = free;
   two = λ top rooted inner. (

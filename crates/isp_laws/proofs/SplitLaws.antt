@@ -185,21 +185,21 @@ numbered_split c r =
 
 -- ---- entries after the split
 
-record WasThere (c : Splitting) (page : Page) (e : Entry) : Type 0 where
-  old : Entry
-  has : Has page.entries old
-  is : reboxed c.o (least c.left) old ≡ e
+pub record WasThere (c : Splitting) (page : Page) (e : Entry) : Type 0 where
+  pub old : Entry
+  pub has : Has page.entries old
+  pub is : reboxed c.o (least c.left) old ≡ e
 
-record IsNew (c : Splitting) (q : ℕ) (e : Entry) : Type 0 where
-  at : q ≡ c.above
-  is : entry_for (least c.right) c.n ≡ e
+pub record IsNew (c : Splitting) (q : ℕ) (e : Entry) : Type 0 where
+  pub at : q ≡ c.above
+  pub is : entry_for (least c.right) c.n ≡ e
 
 new_at : (c : Splitting) (q : ℕ) (e : Entry) (b : Bool) → (q == c.above) ≡ b → Has (cond b (entry_for (least c.right) c.n ∷ []) []) e → IsNew c q e
 new_at c q e true t (inl same) = record { at = eqb-true q c.above t; is = same }
 new_at c q e true t (inr none) = absurd none
 new_at c q e false t h = absurd h
 
-entry_of : (c : Splitting) (q : ℕ) (page : Page) (e : Entry) → Has (round c q page).entries e → WasThere c page e ⊎ IsNew c q e
+pub entry_of : (c : Splitting) (q : ℕ) (page : Page) (e : Entry) → Has (round c q page).entries e → WasThere c page e ⊎ IsNew c q e
 entry_of c q page e h =
     elim (Has-append (map (reboxed c.o (least c.left)) page.entries) (cond (q == c.above) (entry_for (least c.right) c.n ∷ []) []) e h) [
       | inl k ↦ (let s : Source (reboxed c.o (least c.left)) page.entries e = Has-map (reboxed c.o (least c.left)) page.entries e k in inl (record { old = s.x; has = s.has; is = s.is }))
@@ -410,12 +410,12 @@ page_split c x page h = elim (what c x page h) [
 -- ---- right links
 
 -- a page of the tree still is one of the same level
-record Still (c : Splitting) (r level : ℕ) : Type 0 where
-  page : Page
-  there : page_in (with_gone c) r ≡ Some page
-  same : page.level ≡ level
+pub record Still (c : Splitting) (r level : ℕ) : Type 0 where
+  pub page : Page
+  pub there : page_in (with_gone c) r ≡ Some page
+  pub same : page.level ≡ level
 
-still_there : (c : Splitting) (r : ℕ) (page : Page) → page_at c.tree r ≡ Some page → Still c r page.level
+pub still_there : (c : Splitting) (r : ℕ) (page : Page) → page_at c.tree r ≡ Some page → Still c r page.level
 still_there c r page there =
     elim (c.o == r) as (λ b. (c.o == r) ≡ b → Still c r page.level) [
       | true ↦ λ t. (let at : c.o ≡ r = eqb-true c.o r t in

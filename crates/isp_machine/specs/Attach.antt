@@ -1,14 +1,15 @@
 -- How a search is attached to pages where an insert changes the tree below it: it percolates down the path of the insert
 -- where a box grows into what it looks for, and is copied to the new page of a split or of a raised root. Predicate locks
 -- on the pages of an index after Kornacker, Mohan and Hellerstein (1997).
-use Rattle.std.specs.Prelude.{ℕ, ◌==◌, Bool, false, not, ◌&&◌, ◌||◌, cond, Option, Some, None, List, [], ◌∷◌, ◌++◌}
+use Rattle.std.specs.Prelude.{ℕ, ℤ, ◌==◌, Bool, false, not, ◌&&◌, ◌||◌, cond, Option, Some, None, List, [], ◌∷◌, ◌++◌, reverse}
+use Rattle.std.specs.List.{list_any}
 use Rattle.isp_mbr.specs.Corners.{Corners}
 use Rattle.isp_mbr.specs.Boxes.{union}
 use Rattle.isp_mbr.specs.Predicates.{may_hold}
 use Rattle.isp_mbr.specs.declared.predicate.Predicate.{Predicate}
 use Rattle.isp_rnode.specs.declared.entry.Entry.{Entry}
 use Rattle.isp_rnode.specs.Tree.{Page, Tree, page_at, child_of, least}
-use Rattle.isp_machine.specs.Steps.{is_among, names}
+use Rattle.isp_machine.specs.Steps.{is_among, is_last, names, add, split}
 use Rattle.isp_machine.specs.Place.{Division}
 use Rattle.isp_machine.specs.Search.{Search}
 
@@ -62,4 +63,28 @@ abbrev pub copied_up : Tree → ℕ → List ℕ → List Division → Search �
 copied_up tree q up [] x = x
 copied_up tree q [] (d ∷ ds) x = x
 copied_up tree q (o ∷ []) (d ∷ ds) x = copied_at_split q d.right d.page (copied_at_raise tree q x)
-copied_up tree q (o ∷ above ∷ up) (d ∷ ds) x = copied_up tree q (above ∷ up) ds (copied_at_split o d.right d.page x)
+copied_up tree q (o ∷ above ∷ up) (d ∷ ds) x =
+    copied_up (split tree o above d.left d.right d.page) q (above ∷ up) ds (copied_at_split o d.right d.page x)
+
+-- the same in the order of an engine that changes the whole tree first: to the page of the raised root, if there is one, and
+-- then to the new pages of the splits from the leaf up
+abbrev pub copied_to_raised : Tree → ℕ → List ℕ → List Division → Search → Search
+copied_to_raised tree q up [] x = x
+copied_to_raised tree q [] (d ∷ ds) x = x
+copied_to_raised tree q (o ∷ []) (d ∷ ds) x = copied_at_raise tree q x
+copied_to_raised tree q (o ∷ above ∷ up) (d ∷ ds) x = copied_to_raised (split tree o above d.left d.right d.page) q (above ∷ up) ds x
+
+abbrev pub copied_to_parts : ℕ → List ℕ → List Division → Search → Search
+copied_to_parts q up [] x = x
+copied_to_parts q [] (d ∷ ds) x = x
+copied_to_parts q (o ∷ []) (d ∷ ds) x = copied_at_split q d.right d.page x
+copied_to_parts q (o ∷ above ∷ up) (d ∷ ds) x = copied_to_parts q (above ∷ up) ds (copied_at_split o d.right d.page x)
+
+-- the search after an entry was placed
+abbrev pub attached : Tree → List ℕ → Corners → ℤ → ℕ → ℕ → List Division → Search → Search
+attached tree path b key number q ds x = copied_up (add tree path b key number) q (reverse path) ds (let_in tree path b x)
+
+-- the entry that is to be placed on the last page of the path is tested against the search: it is on that page, or
+-- percolates to it
+abbrev pub is_tested : Tree → List ℕ → Corners → Search → Bool
+is_tested tree path b x = list_any (is_last path) (let_in tree path b x).on

@@ -47,8 +47,9 @@ pub record IsRemembered (tree : Tree) (p s : ℕ) : Type 0 where
   pub rest : List ℕ
   pub walk : IsWalk tree s (p ∷ rest)
 
--- nothing that the search could find is out of its reach
+-- nothing that the search could find is out of its reach, and the pages that it is on are pages of its tree
 pub record Covered (tree : Tree) (x : Search) : Type 0 where
+  pub pages : (p : ℕ) → Has x.on p → (page : Page) × (page_at tree p ≡ Some page)
   pub root : Sees tree x tree.root
   pub children : (p q : ℕ) (e : Entry) → Has x.on p → Names tree p q e → may_hold x.predicate e.b ≡ true → Sees tree x q
   pub stack : (p s : ℕ) → Has x.stack (p, s) → IsRemembered tree p s

@@ -1,0 +1,14 @@
+pub mod SeesLaws
+pub mod PercolationLaws
+pub mod AddSearchLaws
+pub mod RemoveSearchLaws
+pub mod RaiseSearchLaws
+pub mod SplitSearchLaws
+pub mod VisitSearchLaws
+pub mod PlaceSearchLaws
+pub mod FoundLaws
+pub mod VisitsEndLaws
+pub mod CoveredByTests
+pub mod WrongStepLaws
+pub mod LikeLaws
+pub mod CopyOrderLaws
