@@ -1,1 +1,2 @@
+pub mod FirstRowLaws
 pub mod RunLaws

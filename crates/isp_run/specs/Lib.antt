@@ -1,4 +1,5 @@
 pub mod Causes
 pub mod Ending
+pub mod FirstRow
 pub mod Ran
 pub mod Words

@@ -8,6 +8,7 @@ ghost use Rattle.isp_run.specs.Ran.{IsDue, IsQuiet, IsRead, RanOf};
 ghost use Rattle.isp_run.specs.Words.{is_run};
 
 mod input;
+mod laws;
 mod play;
 mod read;
 mod status;
@@ -15,6 +16,7 @@ mod stop;
 mod words;
 
 use isp_disk::{Source, World};
+pub use laws::law_first_row;
 use play::play;
 use read::read_script;
 pub use status::Status;

@@ -90,9 +90,27 @@ fn statuses(rt: HostRuntime) -> Result<(), Fail> {
         (&["f", "run", "x"], FIRST_ROW, none, none, Status::Usage),
         (&[], FIRST_ROW, &[1], &[1], Status::Usage),
         (&["f", "run"], b"", none, none, bad),
-        (&["f", "run"], b"setup\nsession 1\nschedule\n1\nend\n", none, none, bad),
-        (&["f", "run"], b"setup\nsession 17\nschedule\nend\n", none, none, bad),
-        (&["f", "run"], b"setup\r\n# x;\r\n \t\r\nschedule\r\nend\r\n\n", none, none, Status::Done),
+        (
+            &["f", "run"],
+            b"setup\nsession 1\nschedule\n1\nend\n",
+            none,
+            none,
+            bad,
+        ),
+        (
+            &["f", "run"],
+            b"setup\nsession 17\nschedule\nend\n",
+            none,
+            none,
+            bad,
+        ),
+        (
+            &["f", "run"],
+            b"setup\r\n# x;\r\n \t\r\nschedule\r\nend\r\n\n",
+            none,
+            none,
+            Status::Done,
+        ),
         (&["f", "run"], FIRST_ROW, &[1], none, Status::ReadFault),
         (&["f", "run"], FIRST_ROW, &[2], none, Status::ReadFault),
         (&["f", "run"], FIRST_ROW, none, &[1], Status::PrintFault),
@@ -111,8 +129,12 @@ fn statuses(rt: HostRuntime) -> Result<(), Fail> {
 // The answers to one session's statements, on a table with the point (0 0) at key 1.
 fn session_answers(alloc: Global, statements: &[&str]) -> Result<(Status, Vec<u8>), AllocError> {
     let mut script = Vec::new(alloc);
-    script.extend_from_slice(b"setup\nCREATE TABLE p (id BIGINT PRIMARY KEY, g GEOMETRY NOT NULL SRID 0, SPATIAL INDEX (g));\n")?;
-    script.extend_from_slice(b"INSERT INTO p VALUES (1,ST_GeomFromText('POINT(0 0)'));\nsession 3\n")?;
+    script.extend_from_slice(
+        b"setup\nCREATE TABLE p (id BIGINT PRIMARY KEY, g GEOMETRY NOT NULL SRID 0, SPATIAL INDEX (g));\n",
+    )?;
+    script.extend_from_slice(
+        b"INSERT INTO p VALUES (1,ST_GeomFromText('POINT(0 0)'));\nsession 3\n",
+    )?;
     for statement in statements {
         script.extend_from_slice(statement.as_bytes())?;
         script.extend_from_slice(b";\n")?;

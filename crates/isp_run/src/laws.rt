@@ -1,0 +1,8 @@
+//! The definitions on a worked row, as a function that does nothing.
+
+ghost use Rattle.isp_run.specs.FirstRow.{FirstRow};
+
+/// The definitions give a worked row's lines: a table of five points, and a search that finds two of them.
+pub fn law_first_row()
+    ensures { FirstRow }
+{}
