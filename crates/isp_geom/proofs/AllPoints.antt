@@ -1,5 +1,5 @@
 -- The equations of `points_of`, one for each kind, and that a geometry has points.
-use Rattle.std.proofs.Common.{◌≡◌, ℕ, zero, suc, ◌+◌, ◌++◌, ap, sym, ◌∙◌, List, [], ◌∷◌, length, map, arith, length-append, refl, Option, Some, None, Bool, true, false, ◌&&◌, ◌<◌, ◌≤◌, subst, IsSome, nat_le}
+use Rattle.std.proofs.Common.{◌≡◌, ℕ, zero, suc, ◌++◌, ap, sym, ◌∙◌, List, [], ◌∷◌, length, map, arith, length-append, refl, Some, None, Bool, true, ◌&&◌, ◌<◌, ◌≤◌, subst, IsSome, nat_le}
 use Rattle.std.specs.List.{flat_map, fold, list_all}
 use Rattle.std.proofs.lemmas.Bool.{and_parts}
 use Rattle.std.proofs.lemmas.Bool.Decides.{nat_tests}
@@ -8,7 +8,7 @@ use Rattle.isp_mbr.specs.Boxes.{union}
 use Rattle.isp_geom.specs.declared.form.Point as p
 use Rattle.isp_geom.specs.declared.form.Form.{Form, Form-F, roll-Form, out-Form, roll-out-Form, fold-roll-Form}
 use Rattle.isp_geom.specs.declared.form.Form.TheVariants.{Point, LineString, Polygon, MultiPoint, MultiLineString, MultiPolygon, Collection, rolls-Point, rolls-LineString, rolls-Polygon, rolls-MultiPoint, rolls-MultiLineString, rolls-MultiPolygon, rolls-Collection}
-use Rattle.isp_geom.specs.Rules.{is_form, is_level, is_list, is_count, is_point, is_points, is_line, is_ring, is_closed, is_polygon}
+use Rattle.isp_geom.specs.Rules.{is_form, is_level, is_list, is_count, is_point, is_line, is_ring, is_closed, is_polygon}
 use Rattle.isp_geom.specs.Bounds.{points_of, level_points, widened, corner}
 use Rattle.isp_geom.proofs.Levels.{is_form-roll}
 

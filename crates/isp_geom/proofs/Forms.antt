@@ -1,6 +1,5 @@
 -- Forms are read as they are spelled, and no spelling begins another.
-use Rattle.std.proofs.Common.{◌≡◌, ℕ, zero, suc, ◌+◌, ◌<◌, ◌==◌, Bool, true, false, cond, ◌&&◌, ◌⊎◌, inl, inr, List, [], ◌∷◌, ◌++◌, length, Option, Some, None, refl, sym, ap, subst, ◌∙◌, arith}
-use Rattle.std.specs.List.{list_all}
+use Rattle.std.proofs.Common.{◌≡◌, ℕ, zero, suc, ◌==◌, Bool, true, false, cond, ◌⊎◌, inl, inr, List, [], ◌∷◌, ◌++◌, Option, Some, None, refl, sym, ap, subst, ◌∙◌, arith}
 use Rattle.std.proofs.lemmas.Bool.{and_parts}
 use Rattle.std.proofs.lemmas.Bool.Decides.{nat_tests}
 use Rattle.isp_geom.specs.declared.form.Point as p
@@ -8,7 +7,7 @@ use Rattle.isp_geom.specs.declared.form.Form.{Form, Form-F, out-Form, roll-Form,
 use Rattle.isp_geom.specs.declared.form.Form.TheVariants.{Point, LineString, Polygon, MultiPoint, MultiLineString, MultiPolygon, Collection, rolls-Point, rolls-LineString, rolls-Polygon, rolls-MultiPoint, rolls-MultiLineString, rolls-MultiPolygon, rolls-Collection}
 use Rattle.isp_geom.specs.Rules.{is_form, is_level, is_list, is_point, is_points, is_line, is_ring, is_closed, is_polygon}
 use Rattle.isp_geom.specs.Spelling.{spelling, point, points, rings, polygons, listed}
-use Rattle.isp_geom.specs.Reading.{◌>>=◌, byte_at, point_at, points_at, rings_at, polygons_at, list_at, made, body_at, form_at}
+use Rattle.isp_geom.specs.Reading.{point_at, points_at, rings_at, polygons_at, list_at, made, body_at, form_at}
 use Rattle.isp_geom.proofs.Levels.{is_form-roll}
 use Rattle.isp_geom.proofs.Readers.{IsBytes, IsBytes-rest, Takes, IsReader, point_reader, list_reader, stronger, bind_some, some_is}
 use Rattle.isp_geom.proofs.Spellings.{spelling-point, spelling-line, spelling-polygon, spelling-points, spelling-lines, spelling-polygons, spelling-members}
@@ -53,19 +52,24 @@ chosen kind k x y z e = split (kind == k) refl
 body_back : (kind : ℕ) (bytes : List ℕ) (f : Form) (rest : List ℕ) → IsBytes bytes → body_at kind bytes ≡ Some (f, rest) → Takes (kind ∷ bytes) (spelling f) rest
 body_back kind bytes f rest fits e =
     elim (chosen kind 1 _ _ _ e) [
-    | inl h ↦ kind_back point is_point point_at Point 1 point_reader spelling-point kind bytes f rest fits h.0 h.1
-    | inr e ↦ elim (chosen kind 2 _ _ _ e) [
-    | inl h ↦ kind_back points is_line points_at LineString 2 line_reader spelling-line kind bytes f rest fits h.0 h.1
-    | inr e ↦ elim (chosen kind 3 _ _ _ e) [
-    | inl h ↦ kind_back rings is_polygon rings_at Polygon 3 polygon_reader spelling-polygon kind bytes f rest fits h.0 h.1
-    | inr e ↦ elim (chosen kind 4 _ _ _ e) [
-    | inl h ↦ kind_back points is_points points_at MultiPoint 4 points_reader spelling-points kind bytes f rest fits h.0 h.1
-    | inr e ↦ elim (chosen kind 5 _ _ _ e) [
-    | inl h ↦ kind_back rings (is_list is_line 1) rings_at MultiLineString 5 lines_reader spelling-lines kind bytes f rest fits h.0 h.1
-    | inr e ↦ elim (chosen kind 6 _ _ _ e) [
-    | inl h ↦ kind_back polygons (is_list is_polygon 1) polygons_at MultiPolygon 6 polygons_reader spelling-polygons kind bytes f rest fits h.0 h.1
-    | inr e ↦ absurd (let never : None ≡ Some (f, rest) = e in cc)
-    ] ] ] ] ] ]
+      | inl h ↦ kind_back point is_point point_at Point 1 point_reader spelling-point kind bytes f rest fits h.0 h.1
+      | inr e ↦ elim (chosen kind 2 _ _ _ e) [
+        | inl h ↦ kind_back points is_line points_at LineString 2 line_reader spelling-line kind bytes f rest fits h.0 h.1
+        | inr e ↦ elim (chosen kind 3 _ _ _ e) [
+          | inl h ↦ kind_back rings is_polygon rings_at Polygon 3 polygon_reader spelling-polygon kind bytes f rest fits h.0 h.1
+          | inr e ↦ elim (chosen kind 4 _ _ _ e) [
+            | inl h ↦ kind_back points is_points points_at MultiPoint 4 points_reader spelling-points kind bytes f rest fits h.0 h.1
+            | inr e ↦ elim (chosen kind 5 _ _ _ e) [
+              | inl h ↦ kind_back rings (is_list is_line 1) rings_at MultiLineString 5 lines_reader spelling-lines kind bytes f rest fits h.0 h.1
+              | inr e ↦ elim (chosen kind 6 _ _ _ e) [
+                | inl h ↦ kind_back polygons (is_list is_polygon 1) polygons_at MultiPolygon 6 polygons_reader spelling-polygons kind bytes f rest fits h.0 h.1
+                | inr e ↦ absurd (let never : None ≡ Some (f, rest) = e in cc)
+              ]
+            ]
+          ]
+        ]
+      ]
+    ]
 
 -- ---- what was spelled is read again
 
@@ -75,8 +79,8 @@ module _ (levels : ℕ) (members : IsReader Form spelling (is_form levels) (form
   form_back [] f rest fits e = absurd cc
   form_back (kind ∷ bytes) f rest fits e =
       elim (chosen kind 7 _ _ _ e) [
-      | inl h ↦ kind_back (listed spelling) (is_list (is_form levels) 1) (list_at (form_at levels)) Collection 7 (list_reader spelling (is_form levels) (form_at levels) members 1) spelling-members kind bytes f rest (IsBytes-rest kind bytes fits) h.0 h.1
-      | inr e ↦ body_back kind bytes f rest (IsBytes-rest kind bytes fits) e
+        | inl h ↦ kind_back (listed spelling) (is_list (is_form levels) 1) (list_at (form_at levels)) Collection 7 (list_reader spelling (is_form levels) (form_at levels) members 1) spelling-members kind bytes f rest (IsBytes-rest kind bytes fits) h.0 h.1
+        | inr e ↦ body_back kind bytes f rest (IsBytes-rest kind bytes fits) e
       ]
 
   -- the same at a form that is given by its parts

@@ -1,10 +1,9 @@
 -- The equations of `is_form`, one for each kind.
 use Rattle.std.proofs.Common.{◌≡◌, ℕ, zero, suc, ◌-◌, ◌<◌, ap, sym, ◌∙◌, List, arith, refl, false}
-use Rattle.std.specs.List.{list_all}
 use Rattle.isp_geom.specs.declared.form.Point as p
-use Rattle.isp_geom.specs.declared.form.Form.{Form, Form-F, out-Form, roll-Form, out-roll-Form}
+use Rattle.isp_geom.specs.declared.form.Form.{Form, Form-F, roll-Form, out-roll-Form}
 use Rattle.isp_geom.specs.declared.form.Form.TheVariants.{Point, LineString, Polygon, MultiPoint, MultiLineString, MultiPolygon, Collection, rolls-Point, rolls-LineString, rolls-Polygon, rolls-MultiPoint, rolls-MultiLineString, rolls-MultiPolygon, rolls-Collection}
-use Rattle.isp_geom.specs.Rules.{is_form, is_level, is_list, is_count, is_point, is_line, is_polygon, is_points}
+use Rattle.isp_geom.specs.Rules.{is_form, is_level, is_list, is_point, is_line, is_polygon, is_points}
 
 -- one level of a form that is given by its parts
 pub is_form-roll : (levels : ℕ) (x : Form-F Form) → is_form (suc levels) (roll-Form x) ≡ is_level (is_form levels) x

@@ -1,6 +1,6 @@
 -- What is read is what was spelled, and what was spelled is read again, whatever follows it.
-use Rattle.std.proofs.Common.{◌≡◌, ℕ, ℤ, zero, suc, ◌+◌, ◌^◌, ◌<◌, ◌≤◌, Bool, true, false, cond, ◌&&◌, List, [], ◌∷◌, ◌++◌, length, get_or, Option, Some, None, refl, sym, ap, subst, ◌∙◌, append_assoc, arith}
-use Rattle.std.specs.Prelude.{FitsSigned, unsigned_abs, nat_le}
+use Rattle.std.proofs.Common.{◌≡◌, ℕ, ℤ, zero, suc, ◌^◌, ◌<◌, Bool, true, List, [], ◌∷◌, ◌++◌, length, get_or, Option, Some, None, refl, sym, ap, subst, ◌∙◌, append_assoc, arith}
+use Rattle.std.specs.Prelude.{FitsSigned, nat_le}
 use Rattle.std.specs.List.{flat_map, list_all}
 use Rattle.std.specs.Int.{w16, w32, from_be_bytes, to_be_bytes, cast_signed, cast_unsigned}
 use Rattle.std.proofs.lemmas.Bool.{and_parts}
@@ -118,7 +118,7 @@ module _ {X : Type 0} (spelled : X → List ℕ) (passes : X → Bool) (read : L
       let others = c.0 in
       let u = items_back n first.1 others.0 others.1 t.rest_fits c.1 in
       subst (λ (r : List X × List ℕ). Takes bytes (flat_map spelled r.0) r.1 × (length r.0 ≡ suc n)) (some_is (first.0 ∷ others.0, others.1) (xs, rest) c.2)
-          (Takes-then bytes (spelled first.0) first.1 (flat_map spelled others.0) others.1 t u.0, ap suc u.1)
+      (Takes-then bytes (spelled first.0) first.1 (flat_map spelled others.0) others.1 t u.0, ap suc u.1)
 
   items_again : (xs : List X) (rest : List ℕ) → list_all passes xs ≡ true → items_at read (length xs) (flat_map spelled xs ++ rest) ≡ Some (xs, rest)
   items_again [] rest h = refl
@@ -135,7 +135,7 @@ module _ {X : Type 0} (spelled : X → List ℕ) (passes : X → Bool) (read : L
       let t = count_back bytes b.0.0 b.0.1 fits b.1 in
       let u = items_back b.0.0 b.0.1 xs rest t.rest_fits b.2 in
       subst (λ (n : ℕ). Takes bytes (to_be_bytes w16 n ++ flat_map spelled xs) rest) (sym u.1)
-          (Takes-then bytes (to_be_bytes w16 b.0.0) b.0.1 (flat_map spelled xs) rest t u.0)
+      (Takes-then bytes (to_be_bytes w16 b.0.0) b.0.1 (flat_map spelled xs) rest t u.0)
 
   list_again : (least : ℕ) (xs : List X) (rest : List ℕ) → is_list passes least xs ≡ true → list_at read (listed spelled xs ++ rest) ≡ Some (xs, rest)
   unfolding list_at

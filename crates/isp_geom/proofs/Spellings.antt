@@ -1,5 +1,5 @@
 -- The equations of `spelling`, one for each kind, and lengths that are counted up to a limit.
-use Rattle.std.proofs.Common.{◌≡◌, ℕ, ◌+◌, ◌++◌, min, ap, sym, ◌∙◌, List, [], ◌∷◌, length, map, arith, length-append, refl}
+use Rattle.std.proofs.Common.{◌≡◌, ℕ, ◌++◌, ap, sym, ◌∙◌, List, [], ◌∷◌, length, map, refl}
 use Rattle.std.specs.List.{flat_map}
 use Rattle.isp_geom.specs.declared.form.Point as p
 use Rattle.isp_geom.specs.declared.form.Form.{Form, Form-F, roll-Form, fold-roll-Form}

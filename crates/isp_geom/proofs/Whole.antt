@@ -1,13 +1,13 @@
 -- All of the bytes as one form: found exactly where a geometry is spelled so.
-use Rattle.std.proofs.Common.{◌≡◌, ℕ, Bool, true, false, cond, List, [], ◌∷◌, ◌++◌, Option, Some, None, Result, Ok, Err, refl, sym, ap, subst, ◌∙◌}
+use Rattle.std.proofs.Common.{◌≡◌, ℕ, cond, List, [], ◌∷◌, ◌++◌, Option, Some, None, Err, refl, sym, ap, subst, ◌∙◌}
 use Rattle.std.proofs.lemmas.List.{append-nil}
 use Rattle.isp_geom.specs.declared.error.GeomError.{GeomError}
 use Rattle.isp_geom.specs.declared.error.GeomError.TheVariants.{NotGeometry, OutOfMemory}
 use Rattle.isp_geom.specs.declared.form.Form.{Form}
-use Rattle.isp_geom.specs.Rules.{IsGeometry, is_form}
+use Rattle.isp_geom.specs.Rules.{IsGeometry}
 use Rattle.isp_geom.specs.Spelling.{spelling}
-use Rattle.isp_geom.specs.Reading.{◌>>=◌, Gives, form_at, whole_at, is_empty}
-use Rattle.isp_geom.proofs.Readers.{IsBytes, some_is, IsReader, bind_some}
+use Rattle.isp_geom.specs.Reading.{Gives, form_at, whole_at, is_empty}
+use Rattle.isp_geom.proofs.Readers.{IsBytes, some_is, bind_some}
 use Rattle.isp_geom.proofs.Forms.{form_reader}
 
 nothing_left : (f g : Form) (rest : List ℕ) → cond {A = Option (Form × List ℕ)} (is_empty rest) (Some (f, [])) None ≡ Some (g, []) → (rest ≡ []) × (f ≡ g)
@@ -28,10 +28,12 @@ pub refused : (e : GeomError) (bytes : List ℕ) → Gives {X = Form} (Err e) (w
 refused NotGeometry bytes h is g k e = let again = whole_again bytes g k e in cc
 refused OutOfMemory bytes h is g k e = absurd cc
 
+pub one_form : (f : Form) (bytes : List ℕ) → whole_at (form_at 9 bytes) ≡ Some (f, []) → (g : Form) → IsGeometry g → bytes ≡ spelling g → f ≡ g
+one_form f bytes h g k e = ap (λ (r : Form × List ℕ). r.0) (some_is (f, []) (g, []) (sym h ∙ whole_again bytes g k e))
+
 pub no_rules : (f : Form) (bytes : List ℕ) → whole_at (form_at 9 bytes) ≡ Some (f, []) → (IsGeometry f → ⊥) → (g : Form) → IsGeometry g → bytes ≡ spelling g → ⊥
 no_rules f bytes h broken g k e =
-    let again = whole_again bytes g k e in
-    broken (subst IsGeometry (ap (λ (r : Form × List ℕ). r.0) (some_is (g, []) (f, []) (sym again ∙ h))) k)
+    broken (subst IsGeometry (sym (one_form f bytes h g k e)) k)
 
 -- no spelling begins another
 pub apart : (g h : Form) (more others : List ℕ) → IsGeometry g → IsGeometry h → spelling g ++ more ≡ spelling h ++ others → (g ≡ h) × (more ≡ others)

@@ -1,6 +1,6 @@
 -- The box of a geometry: the least and greatest coordinates of all its points, as a minimum bounding rectangle is in the
 -- MySQL 8.0 manual.
-use Rattle.std.specs.Prelude.{ℤ, List, [], ◌∷◌, Option, Some, None}
+use Rattle.std.specs.Prelude.{List, [], ◌∷◌, Option, Some, None}
 use Rattle.std.specs.List.{fold, flat_map}
 use Rattle.isp_mbr.specs.Corners.{Corners}
 use Rattle.isp_mbr.specs.Boxes.{union}

@@ -1,6 +1,6 @@
 -- Which forms are geometries, after the OpenGIS Implementation Specification for Simple Features: the ranges, the least
 -- numbers of members, closed rings and the depth of collections. The limits' numbers are this project's own.
-use Rattle.std.specs.Prelude.{ℕ, zero, suc, ◌-◌, ℤ, Bool, true, false, ◌&&◌, nat_le, List, length, slice_get, Option, Some, None, unsigned_abs, ◌≡◌}
+use Rattle.std.specs.Prelude.{ℕ, zero, suc, ◌-◌, ℤ, Bool, true, false, ◌&&◌, nat_le, List, length, slice_get, Option, Some, unsigned_abs, ◌≡◌}
 use Rattle.std.specs.List.{list_all}
 use Rattle.std.specs.Ordering.{int_eq}
 use Rattle.isp_geom.specs.declared.form.Point.{Point}

@@ -1,6 +1,6 @@
 -- The one spelling of a geometry in bytes, this project's own: a byte of kind and the body; numbers with their high byte
 -- first, signed ones in two's complement; a list is the number of its members in two bytes and the members.
-use Rattle.std.specs.Prelude.{ℕ, ℤ, List, [], ◌∷◌, ◌++◌, length}
+use Rattle.std.specs.Prelude.{ℕ, ℤ, List, ◌∷◌, ◌++◌, length}
 use Rattle.std.specs.List.{flat_map}
 use Rattle.std.specs.Int.{to_be_bytes, cast_unsigned, w16, w32}
 use Rattle.isp_geom.specs.declared.form.Point.{Point}

@@ -19,7 +19,6 @@ pub struct Geometry {
 impl Model for Geometry {
     ghost use Rattle.isp_geom.specs.declared.form.Form.{Form};
     ghost use Rattle.isp_geom.specs.Rules.{IsGeometry};
-
     ghost use Rattle.isp_geom.specs.contracts.form.Form as e;
     ghost use Rattle.std.specs.Coded.{codes};
 

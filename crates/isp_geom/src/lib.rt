@@ -12,6 +12,8 @@ mod geometry;
 mod laws;
 mod read;
 mod rules;
+#[cfg(test)]
+mod tests;
 mod write;
 
 pub use bounds::box_of;

@@ -7,7 +7,6 @@ ghost use Rattle.isp_geom.specs.Spelling.{spelling};
 ghost use Rattle.isp_geom.specs.declared.error.GeomError.TheVariants.{NotGeometry};
 ghost use Rattle.isp_geom.specs.declared.form.Form.{Form};
 
-
 use crate::cursor::Cursor;
 use crate::rules::LEVELS;
 use crate::{Form, GeomError, Geometry, Members, Point, Points, Polygons, Rings};
@@ -46,11 +45,7 @@ impl<T: Read> Read for Items<T> {
 }
 
 // So many values, one after another.
-fn items<T: Read>(
-    alloc: Global,
-    from: &mut Cursor<'_>,
-    count: u16,
-) -> Result<Items<T>, GeomError>
+fn items<T: Read>(alloc: Global, from: &mut Cursor<'_>, count: u16) -> Result<Items<T>, GeomError>
     ensures { Gives result (items_at T.read_at count from.old) from.new }
 {
     let mut found = Items::new(alloc);
@@ -128,13 +123,18 @@ fn whole(alloc: Global, bytes: &[u8]) -> Result<Form, GeomError>
 {
     let mut from = Cursor::new(bytes);
     let form = form(alloc, &mut from, LEVELS)?;
-    if from.is_empty() { Ok(form) } else { Err(GeomError::NotGeometry) }
+    if from.is_empty() {
+        Ok(form)
+    } else {
+        Err(GeomError::NotGeometry)
+    }
 }
 
 /// The geometry that the bytes spell, all of them. NotGeometry comes exactly where no geometry is spelled so, and
 /// OutOfMemory is want of memory.
 pub fn from_bytes(alloc: Global, bytes: &[u8]) -> Result<Geometry, GeomError>
     ensures found { IfOk result (λ g. IsGeometry g × (bytes.now ≡ spelling g)) }
+    ensures again { (g : Form) → IsGeometry g → bytes.now ≡ spelling g → IfOk result (λ read. read ≡ g) }
     ensures refused { result ≡ Err NotGeometry → (g : Form) → IsGeometry g → bytes.now ≢ spelling g }
 {
     let form = whole(alloc, bytes)?;

@@ -120,9 +120,7 @@ pub fn is_form(form: &Form, levels: u8) -> bool
         Form::LineString(points) => is_line(points.as_slice()),
         Form::Polygon(rings) => is_polygon(rings.as_slice()),
         Form::MultiPoint(points) => is_points(points.as_slice()),
-        Form::MultiLineString(lines) => {
-            is_count(lines.len(), 1) && are_lines(lines.as_slice())
-        }
+        Form::MultiLineString(lines) => { is_count(lines.len(), 1) && are_lines(lines.as_slice()) }
         Form::MultiPolygon(polygons) => {
             is_count(polygons.len(), 1) && are_polygons(polygons.as_slice())
         }

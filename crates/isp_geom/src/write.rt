@@ -46,9 +46,7 @@ impl Spell for Point {
     ghost spelled = { point };
 
     fn put(&self, out: &mut Vec<u8>) -> Result<(), AllocError> {
-        put_coordinate(out, self.x)?;
-        put_coordinate(out, self.y)?;
-        Ok(())
+        put_pair(out, self.x, self.y)
     }
 
     fn spelled_len(&self) -> usize {
@@ -74,6 +72,14 @@ fn put_coordinate(out: &mut Vec<u8>, z: i32) -> Result<(), AllocError>
     ensures { OnOk result (out.new.items ≡ out.old.items ++ coordinate z) }
 {
     out.extend_from_slice(&z.to_be_bytes())?;
+    Ok(())
+}
+
+fn put_pair(out: &mut Vec<u8>, x: i32, y: i32) -> Result<(), AllocError>
+    ensures { OnOk result (out.new.items ≡ out.old.items ++ (coordinate x ++ coordinate y)) }
+{
+    put_coordinate(out, x)?;
+    put_coordinate(out, y)?;
     Ok(())
 }
 
@@ -121,12 +127,30 @@ fn put_form(out: &mut Vec<u8>, form: &Form) -> Result<(), AllocError>
     ensures { OnOk result (out.new.items ≡ out.old.items ++ spelling form.now) }
 {
     match form {
-        Form::Point(point) => { put_kind(out, 1, point)?; Ok(()) }
-        Form::LineString(points) => { put_kind(out, 2, points)?; Ok(()) }
-        Form::Polygon(rings) => { put_kind(out, 3, rings)?; Ok(()) }
-        Form::MultiPoint(points) => { put_kind(out, 4, points)?; Ok(()) }
-        Form::MultiLineString(lines) => { put_kind(out, 5, lines)?; Ok(()) }
-        Form::MultiPolygon(polygons) => { put_kind(out, 6, polygons)?; Ok(()) }
+        Form::Point(point) => {
+            put_kind(out, 1, point)?;
+            Ok(())
+        }
+        Form::LineString(points) => {
+            put_kind(out, 2, points)?;
+            Ok(())
+        }
+        Form::Polygon(rings) => {
+            put_kind(out, 3, rings)?;
+            Ok(())
+        }
+        Form::MultiPoint(points) => {
+            put_kind(out, 4, points)?;
+            Ok(())
+        }
+        Form::MultiLineString(lines) => {
+            put_kind(out, 5, lines)?;
+            Ok(())
+        }
+        Form::MultiPolygon(polygons) => {
+            put_kind(out, 6, polygons)?;
+            Ok(())
+        }
         Form::Collection(members) => {
             out.push(7)?;
             put_count(out, members.len())?;

@@ -1,6 +1,6 @@
 use Rattle.std.proofs.Common.{◌≡◌, take}
 use Rattle.std.specs.List.{fold, flat_map}
-use Rattle.isp_geom.specs.Bounds.{widened, points_of}
+use Rattle.isp_geom.specs.Bounds.{widened}
 use Rattle.isp_geom.proofs.bounds.round_rings.Given as goal
 
 abbrev pub invariant-loop-ring : goal.invariant-loop-ring

@@ -1,4 +1,3 @@
-use Rattle.std.proofs.Common.{◌≡◌}
 use Rattle.std.proofs.lemmas.Result.{err_from_is_err_and}
 use Rattle.isp_geom.specs.Reading.{items_at, form_at}
 use Rattle.isp_geom.proofs.Sequences.{ends, is_done, goes_on}

@@ -1,8 +1,8 @@
-use Rattle.std.proofs.Common.{◌≡◌, ◌∙◌, sym, ◌++◌, ap, true, false, subst, refl, arith}
+use Rattle.std.proofs.Common.{◌≡◌, ◌∙◌, sym, ap, true, false, subst, refl, arith}
 use Rattle.std.proofs.lemmas.Result.{err_from_is_err_and}
 use Rattle.isp_geom.specs.Spelling.{spelling}
 use Rattle.isp_geom.specs.Rules.{IsGeometry}
-use Rattle.isp_geom.proofs.Whole.{whole_found, refused, no_rules}
+use Rattle.isp_geom.proofs.Whole.{whole_found, refused, no_rules, one_form}
 use Rattle.isp_geom.proofs.read.from_bytes.Goals as goal
 
 pub returns-in_err-form-clause-refused : goal.returns-in_err-form-clause-refused
@@ -18,3 +18,6 @@ returns-in-Some-clause-found c =
 
 pub returns-in-None-clause-refused : goal.returns-in-None-clause-refused
 returns-in-None-clause-refused c = λ is. no_rules c.in_ok-form.form c.args.bytes.now c.in_ok-form.ensures (λ h. absurd (let no : false ≡ true = c.in-None.ensures.kept.1 h in cc))
+
+pub returns-in-Some-clause-again : goal.returns-in-Some-clause-again
+returns-in-Some-clause-again c = λ g k e. c.in-Some.ensures.form ∙ one_form c.in_ok-form.form c.args.bytes.now c.in_ok-form.ensures g k e

@@ -1,4 +1,4 @@
-use Rattle.std.proofs.Common.{◌≡◌, drop, true}
+use Rattle.std.proofs.Common.{◌≡◌, drop}
 use Rattle.std.specs.List.{list_all}
 use Rattle.isp_geom.specs.Rules.{is_form}
 use Rattle.isp_geom.proofs.rules.+levels.Given as goal
