@@ -22,4 +22,5 @@ pub use form::{Form, Members, Point, Points, Polygons, Rings};
 pub use geometry::Geometry;
 pub use laws::law_no_spelling_begins_another;
 pub use read::from_bytes;
+pub use rules::is_closed;
 pub use write::{bytes_len, to_bytes};

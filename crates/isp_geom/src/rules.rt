@@ -72,8 +72,8 @@ fn is_same(p: &Point, q: &Point) -> bool
     p.x == q.x && p.y == q.y
 }
 
-// Whether the last point is the first.
-fn is_closed(points: &[Point]) -> bool
+/// Whether the last point is the first. Without points there is none.
+pub fn is_closed(points: &[Point]) -> bool
     ensures { result ≡ is_closed points.now }
 {
     match (points.first(), points.last()) {

@@ -1,2 +1,4 @@
+pub mod Grammar
 pub mod Printed
+pub mod Reading
 pub mod Words
