@@ -1,2 +1,5 @@
+pub mod Rules
 pub mod Sequences
+pub mod Sound
+pub mod SoundForms
 pub mod Texts

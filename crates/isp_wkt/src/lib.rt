@@ -10,4 +10,5 @@ mod reader;
 
 pub use cause::{WktCause, WktError};
 pub use printer::print;
+pub use reader::read;
 

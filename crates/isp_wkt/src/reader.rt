@@ -1,7 +1,7 @@
 //! Reading geometries from well-known text.
 
 ghost use Rattle.std.specs.Prelude.{◌≡◌, ◌≤◌, ◌-◌, ℕ, List, length, [], ◌∷◌, IfOk, Ok, Err, true, false};
-ghost use Rattle.isp_wkt.specs.Reading.{Gives, Reads, Outcome, point_at, marked_at, single_at, line_at, lines_at, list_at, items_at, ruled, geometry_at, members_at, member_at, word_in, rest_at, ReadsForm, text_at, kinds, skipped};
+ghost use Rattle.isp_wkt.specs.Reading.{Gives, Reads, Outcome, point_at, marked_at, single_at, line_at, lines_at, list_at, items_at, ruled, geometry_at, members_at, member_at, word_in, rest_at, ReadsForm, text_at, kinds, skipped, Answers};
 ghost use Rattle.isp_wkt.specs.declared.cause.WktCause.{WktCause};
 ghost use Rattle.isp_wkt.specs.declared.cause.WktCause.TheVariants.{Empty};
 ghost use Rattle.isp_geom.specs.declared.form.Form.{Form};
@@ -254,7 +254,7 @@ fn rest(from: &mut Cursor<'_>) -> Result<(), Fault>
 
 // The form of a text.
 #[tactic(auto, unfolding(crate::specs::Reading::text_at))]
-fn text(alloc: Global, text: &[u8]) -> Result<Form, Stop>
+fn form_of(alloc: Global, text: &[u8]) -> Result<Form, Stop>
     ensures { Gives result (text_at text.now) [] }
 {
     let mut from = Cursor::new(text);
@@ -266,3 +266,19 @@ fn text(alloc: Global, text: &[u8]) -> Result<Form, Stop>
 
 // How deep collections nest.
 const DEPTH: u8 = 8;
+
+/// The geometry that a text means. The text has at most 65,536 bytes. Bad comes exactly where the text is outside the
+/// grammar, with the cause and the place of its fault; OutOfMemory is want of memory.
+pub fn read(alloc: Global, text: &[u8]) -> Result<Geometry, WktError>
+    requires { length text.now ≤ 65536 }
+    ensures read { Answers result text.now }
+{
+    match form_of(alloc, text) {
+        Ok(form) => Ok(Geometry { form }),
+        Err(Stop::Bad(fault)) => {
+            let at = text.len().saturating_sub(fault.left);
+            Err(WktError::Bad { cause: fault.cause, at })
+        }
+        Err(Stop::OutOfMemory) => Err(WktError::OutOfMemory),
+    }
+}
