@@ -1,3 +1,6 @@
+pub mod Complete
+pub mod CompleteForms
+pub mod PrintedMeans
 pub mod Rules
 pub mod Sequences
 pub mod Sound

@@ -1,14 +1,11 @@
 -- What a text of at most 65,536 bytes means keeps the rules: its lists have fewer members than it has bytes.
-use Rattle.std.proofs.Common.{◌≡◌, ℕ, ℤ, pos, neg_ℤ, zero, suc, ◌+◌, ◌<◌, ◌≤◌, ◌&&◌, nat_le, Bool, true, false, ◌⊎◌, inl, inr, List, [], ◌∷◌, ◌++◌, length, refl, sym, ap, subst, ◌∙◌, arith, length-append}
-use Rattle.std.specs.Prelude.{unsigned_abs}
+use Rattle.std.proofs.Common.{◌≡◌, ℕ, ℤ, zero, suc, ◌+◌, ◌<◌, ◌≤◌, ◌&&◌, nat_le, Bool, true, false, inl, inr, List, [], ◌∷◌, ◌++◌, length, refl, ap, subst, ◌∙◌, arith, length-append}
 use Rattle.std.specs.List.{list_all}
 use Rattle.std.proofs.lemmas.Bool.{and_parts}
 use Rattle.std.proofs.lemmas.Bool.Decides.{nat_tests}
-use Rattle.std.proofs.lemmas.Int.{ints}
-use Rattle.isp_geom.specs.declared.form.Point as p
 use Rattle.isp_geom.specs.declared.form.Form.{Form, Form-F, out-Form}
 use Rattle.isp_geom.specs.Rules.{is_coordinate, is_point, is_points, is_count, is_list, is_line, is_ring, is_closed, is_polygon, is_level, is_form, IsGeometry}
-use Rattle.isp_wkt.specs.Grammar.{AreBlanks, IsNumber, IsPair, IsSingle, AreMembers, IsList, keeps, IsLine, AreLines, IsMarked, IsWorded, IsLevel, Means, IsText}
+use Rattle.isp_wkt.specs.Grammar.{IsNumber, IsPair, IsSingle, AreMembers, IsList, IsLine, AreLines, IsMarked, IsWorded, IsLevel, Means, IsText}
 use Rattle.isp_wkt.specs.Reading.{limit, signed}
 
 both_true : (a b : Bool) → a ≡ true → b ≡ true → (a && b) ≡ true

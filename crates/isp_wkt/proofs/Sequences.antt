@@ -1,7 +1,6 @@
 -- Reading members one after another, as a loop does.
-use Rattle.std.proofs.Common.{◌≡◌, ℕ, zero, suc, ◌-◌, ◌+◌, ◌≤◌, ◌<◌, List, [], ◌∷◌, ◌++◌, length, Bool, true, false, Result, Ok, Err, refl, sym, ap, ◌∙◌, append_assoc, arith}
+use Rattle.std.proofs.Common.{◌≡◌, ℕ, suc, ◌-◌, ◌+◌, ◌≤◌, ◌<◌, List, [], ◌∷◌, ◌++◌, Bool, true, false, Ok, Err, refl, sym, ap, ◌∙◌, append_assoc, arith}
 use Rattle.isp_wkt.specs.declared.cause.WktCause.TheVariants.{Truncated}
-use Rattle.isp_wkt.specs.declared.cause.Fault.{Fault}
 use Rattle.isp_wkt.specs.declared.cause.Stop.{Stop}
 use Rattle.isp_wkt.specs.declared.cause.Stop.TheVariants.{Bad, OutOfMemory}
 use Rattle.isp_wkt.specs.Reading.{◌>>=◌, Outcome, Gives, member_at, items_at, fault}

@@ -1,9 +1,7 @@
 -- What is read is a text of the grammar, with the value that it means.
-use Rattle.std.proofs.Common.{◌≡◌, ℕ, ℤ, zero, suc, ◌+◌, ◌-◌, ◌*◌, ◌<◌, ◌≤◌, ◌==◌, ◌&&◌, nat_le, nat_lt, not, max, Bool, true, false, cond, ◌⊎◌, inl, inr, List, [], ◌∷◌, ◌++◌, length, drop, map, Result, Ok, Err, refl, sym, ap, subst, ◌∙◌, append_assoc, arith}
+use Rattle.std.proofs.Common.{◌≡◌, ℕ, zero, suc, ◌+◌, ◌-◌, ◌*◌, ◌<◌, ◌≤◌, ◌==◌, ◌&&◌, nat_le, nat_lt, not, max, Bool, true, false, cond, ◌⊎◌, inl, inr, List, [], ◌∷◌, ◌++◌, length, drop, map, Result, Ok, Err, refl, sym, ap, subst, ◌∙◌, append_assoc, arith}
 use Rattle.std.specs.List.{fold, list_all}
-use Rattle.std.proofs.lemmas.Bool.{and_parts}
 use Rattle.std.proofs.lemmas.Bool.Decides.{nat_tests}
-use Rattle.std.proofs.lemmas.List.{append-nil}
 use Rattle.isp_geom.specs.declared.form.Point as p
 use Rattle.isp_geom.specs.Rules.{is_closed}
 use Rattle.isp_wkt.specs.declared.cause.WktCause.{WktCause}
@@ -11,8 +9,8 @@ use Rattle.isp_wkt.specs.declared.cause.WktCause.TheVariants.{TooFew, Empty}
 use Rattle.isp_wkt.specs.declared.cause.Fault.{Fault}
 use Rattle.isp_wkt.specs.declared.kind.Kind.{Kind}
 use Rattle.isp_wkt.specs.Words.{word, common, upper}
-use Rattle.isp_wkt.specs.Grammar.{AreBlanks, value_of, IsFraction, IsSize, IsSign, IsNumber, IsPair, IsSingle, AreMembers, IsList, keeps, IsLine, AreLines, IsMarked}
-use Rattle.isp_wkt.specs.Reading.{◌>>=◌, Outcome, fault, is_blank, is_digit, is_e, skipped, limit, digits_at, nonzero_at, zeros_at, fraction_at, end_at, first_at, size_at, sign_at, signed, number_at, blank_at, point_at, inside_at, paren_at, open_at, comma_at, more_at, shut_at, close_at, member_at, items_at, list_at, ruled, line_at, lines_at, single_at, marked_at, word_in, unknown_at}
+use Rattle.isp_wkt.specs.Grammar.{AreBlanks, IsFraction, IsSize, IsSign, IsNumber, IsPair, IsSingle, AreMembers, IsList, keeps, IsLine, AreLines, IsMarked}
+use Rattle.isp_wkt.specs.Reading.{◌>>=◌, Outcome, is_blank, is_digit, is_e, skipped, limit, digits_at, zeros_at, fraction_at, end_at, first_at, size_at, sign_at, signed, number_at, blank_at, point_at, inside_at, paren_at, open_at, comma_at, more_at, shut_at, close_at, member_at, items_at, list_at, ruled, line_at, lines_at, single_at, marked_at, word_in, unknown_at}
 
 -- the value of a step that is no fault
 pub bind_ok : {A B : Type 0} (r : Result A Fault) (f : A → Result B Fault) (y : B) → (r >>= f) ≡ Ok y → (x : A) × (r ≡ Ok x) × (f x ≡ Ok y)
@@ -65,13 +63,13 @@ digits_back : (size : ℕ) (bs : List ℕ) (n : ℕ) (rest : List ℕ) → size 
 digits_back size [] n rest le e = let q = ok_parts size n [] rest e in ([], q.1, refl, q.0, rw (← q.0) le, λ h. absurd h)
 digits_back size (b ∷ bs) n rest le e =
     elim (chosen (is_digit b) _ _ _ e) [
-    | inl h ↦ elim (chosen (nat_le (size * 10 + (b - 48)) limit) _ _ _ h.1) [
-      | inl k ↦ let small : size * 10 + (b - 48) ≤ limit = small_of _ k.0 in
-          let r = digits_back (size * 10 + (b - 48)) bs n rest small k.1 in
-          (b ∷ r.0, ap (λ (t : List ℕ). b ∷ t) r.1, ap (λ t. t && list_all is_digit r.0) h.0 ∙ r.2, r.3, r.4, λ _. omega arith)
-      | inr k ↦ never _ _ k.1
+      | inl h ↦ elim (chosen (nat_le (size * 10 + (b - 48)) limit) _ _ _ h.1) [
+        | inl k ↦ let small : size * 10 + (b - 48) ≤ limit = small_of _ k.0 in
+            let r = digits_back (size * 10 + (b - 48)) bs n rest small k.1 in
+            (b ∷ r.0, ap (λ (t : List ℕ). b ∷ t) r.1, ap (λ t. t && list_all is_digit r.0) h.0 ∙ r.2, r.3, r.4, λ _. omega arith)
+        | inr k ↦ never _ _ k.1
       ]
-    | inr h ↦ let q = ok_parts size n (b ∷ bs) rest h.1 in ([], q.1, refl, q.0, rw (← q.0) le, λ s. absurd (let no : true ≡ false = sym s ∙ h.0 in cc))
+      | inr h ↦ let q = ok_parts size n (b ∷ bs) rest h.1 in ([], q.1, refl, q.0, rw (← q.0) le, λ s. absurd (let no : true ≡ false = sym s ∙ h.0 in cc))
     ]
   where
     small_of : (m : ℕ) → nat_le m limit ≡ true → m ≤ limit
@@ -81,10 +79,10 @@ zeros_back : (bs : List ℕ) (u : Unit {0}) (rest : List ℕ) → zeros_at bs �
 zeros_back [] u rest e = ([], (ok_parts tt u [] rest e).1, refl)
 zeros_back (b ∷ bs) u rest e =
     elim (chosen (b == 48) _ _ _ e) [
-    | inl h ↦ let r = zeros_back bs u rest h.1 in (b ∷ r.0, ap (λ (t : List ℕ). b ∷ t) r.1, ap (λ t. t && list_all (λ z. z == 48) r.0) h.0 ∙ r.2)
-    | inr h ↦ elim (chosen (is_digit b) _ _ _ h.1) [
-      | inl k ↦ never _ _ k.1
-      | inr k ↦ ([], (ok_parts tt u (b ∷ bs) rest k.1).1, refl)
+      | inl h ↦ let r = zeros_back bs u rest h.1 in (b ∷ r.0, ap (λ (t : List ℕ). b ∷ t) r.1, ap (λ t. t && list_all (λ z. z == 48) r.0) h.0 ∙ r.2)
+      | inr h ↦ elim (chosen (is_digit b) _ _ _ h.1) [
+        | inl k ↦ never _ _ k.1
+        | inr k ↦ ([], (ok_parts tt u (b ∷ bs) rest k.1).1, refl)
       ]
     ]
 
@@ -92,8 +90,8 @@ fraction_back : (bs : List ℕ) (u : Unit {0}) (rest : List ℕ) → fraction_at
 fraction_back [] u rest e = ([], (ok_parts tt u [] rest e).1, tt)
 fraction_back (b ∷ bs) u rest e =
     elim (chosen (b == 46) _ _ _ e) [
-    | inl h ↦ let r = zeros_back bs u rest h.1 in (b ∷ r.0, ap (λ (t : List ℕ). b ∷ t) r.1, (dot b h.0, r.2))
-    | inr h ↦ ([], (ok_parts tt u (b ∷ bs) rest h.1).1, tt)
+      | inl h ↦ let r = zeros_back bs u rest h.1 in (b ∷ r.0, ap (λ (t : List ℕ). b ∷ t) r.1, (dot b h.0, r.2))
+      | inr h ↦ ([], (ok_parts tt u (b ∷ bs) rest h.1).1, tt)
     ]
   where
     dot : (b : ℕ) → (b == 46) ≡ true → b ≡ 46
@@ -103,16 +101,16 @@ end_back : (bs : List ℕ) (u : Unit {0}) (rest : List ℕ) → end_at bs ≡ Ok
 end_back [] u rest e = (ok_parts tt u [] rest e).1
 end_back (b ∷ bs) u rest e =
     elim (chosen (is_e b) _ _ _ e) [
-    | inl h ↦ never _ _ h.1
-    | inr h ↦ (ok_parts tt u (b ∷ bs) rest h.1).1
+      | inl h ↦ never _ _ h.1
+      | inr h ↦ (ok_parts tt u (b ∷ bs) rest h.1).1
     ]
 
 first_back : (bs : List ℕ) (u : Unit {0}) (rest : List ℕ) → first_at bs ≡ Ok (u, rest) → (bs ≡ rest) × Starts bs
 first_back [] u rest e = never _ _ e
 first_back (b ∷ bs) u rest e =
     elim (chosen (is_digit b) _ _ _ e) [
-    | inl h ↦ ((ok_parts tt u (b ∷ bs) rest h.1).1, h.0)
-    | inr h ↦ never _ _ h.1
+      | inl h ↦ ((ok_parts tt u (b ∷ bs) rest h.1).1, h.0)
+      | inr h ↦ never _ _ h.1
     ]
 
 size_sound : IsSound IsSize size_at
@@ -138,10 +136,10 @@ sign_back : (bs : List ℕ) (is_negative : Bool) (rest : List ℕ) → sign_at b
 sign_back [] n rest e = let q = ok_parts false n [] rest e in ([], q.1, subst (λ (b : Bool). IsSign b []) q.0 (inl refl))
 sign_back (b ∷ bs) n rest e =
     elim (chosen (b == 45) _ _ _ e) [
-    | inl h ↦ let q = ok_parts true n bs rest h.1 in (b ∷ [], ap (λ (t : List ℕ). b ∷ t) q.1, subst (λ (s : Bool). IsSign s (b ∷ [])) q.0 (ap (λ (c : ℕ). c ∷ []) (is_it b 45 h.0)))
-    | inr h ↦ elim (chosen (b == 43) _ _ _ h.1) [
-      | inl k ↦ let q = ok_parts false n bs rest k.1 in (b ∷ [], ap (λ (t : List ℕ). b ∷ t) q.1, subst (λ (s : Bool). IsSign s (b ∷ [])) q.0 (inr (ap (λ (c : ℕ). c ∷ []) (is_it b 43 k.0))))
-      | inr k ↦ let q = ok_parts false n (b ∷ bs) rest k.1 in ([], q.1, subst (λ (s : Bool). IsSign s []) q.0 (inl refl))
+      | inl h ↦ let q = ok_parts true n bs rest h.1 in (b ∷ [], ap (λ (t : List ℕ). b ∷ t) q.1, subst (λ (s : Bool). IsSign s (b ∷ [])) q.0 (ap (λ (c : ℕ). c ∷ []) (is_it b 45 h.0)))
+      | inr h ↦ elim (chosen (b == 43) _ _ _ h.1) [
+        | inl k ↦ let q = ok_parts false n bs rest k.1 in (b ∷ [], ap (λ (t : List ℕ). b ∷ t) q.1, subst (λ (s : Bool). IsSign s (b ∷ [])) q.0 (inr (ap (λ (c : ℕ). c ∷ []) (is_it b 43 k.0))))
+        | inr k ↦ let q = ok_parts false n (b ∷ bs) rest k.1 in ([], q.1, subst (λ (s : Bool). IsSign s []) q.0 (inl refl))
       ]
     ]
   where
@@ -166,10 +164,10 @@ blank_back : (bs : List ℕ) (u : Unit {0}) (rest : List ℕ) → blank_at bs �
 blank_back [] u rest e = never _ _ e
 blank_back (b ∷ bs) u rest e =
     elim (chosen (is_blank b) _ _ _ e) [
-    | inl h ↦ let r = skipped_back bs in
-        let q = ok_parts tt u (skipped bs) rest h.1 in
-        (b ∷ r.0, ap (λ (t : List ℕ). b ∷ t) (r.1 ∙ ap (λ (t : List ℕ). r.0 ++ t) q.1), omega arith, ap (λ t. t && list_all is_blank r.0) h.0 ∙ r.2)
-    | inr h ↦ never _ _ h.1
+      | inl h ↦ let r = skipped_back bs in
+          let q = ok_parts tt u (skipped bs) rest h.1 in
+          (b ∷ r.0, ap (λ (t : List ℕ). b ∷ t) (r.1 ∙ ap (λ (t : List ℕ). r.0 ++ t) q.1), omega arith, ap (λ t. t && list_all is_blank r.0) h.0 ∙ r.2)
+      | inr h ↦ never _ _ h.1
     ]
 
 pub point_sound : IsSound IsPair point_at
@@ -192,26 +190,26 @@ point_sound bytes point rest e =
 
 -- ---- parentheses and commas
 
-is_it : (b c : ℕ) → (b == c) ≡ true → b ≡ c
+pub is_it : (b c : ℕ) → (b == c) ≡ true → b ≡ c
 is_it b c h = grind (arith, nat_tests)
 
 inside_back : (nothing : WktCause) (bs : List ℕ) (u : Unit {0}) (rest : List ℕ) → inside_at nothing bs ≡ Ok (u, rest) → bs ≡ rest
 inside_back nothing [] u rest e = (ok_parts tt u [] rest e).1
 inside_back nothing (b ∷ bs) u rest e =
     elim (chosen (b == 41) _ _ _ e) [
-    | inl h ↦ never _ _ h.1
-    | inr h ↦ (ok_parts tt u (b ∷ bs) rest h.1).1
+      | inl h ↦ never _ _ h.1
+      | inr h ↦ (ok_parts tt u (b ∷ bs) rest h.1).1
     ]
 
 paren_back : (nothing : WktCause) (bs : List ℕ) (u : Unit {0}) (rest : List ℕ) → paren_at nothing bs ≡ Ok (u, rest) → (opened : List ℕ) × (bs ≡ 40 ∷ (opened ++ rest)) × AreBlanks opened
 paren_back nothing [] u rest e = never _ _ e
 paren_back nothing (b ∷ bs) u rest e =
     elim (chosen (b == 40) _ _ _ e) [
-    | inl h ↦ let r = skipped_back bs in
-        (r.0, ap (λ (c : ℕ). c ∷ bs) (is_it b 40 h.0) ∙ ap (λ (t : List ℕ). 40 ∷ t) (r.1 ∙ ap (λ (t : List ℕ). r.0 ++ t) (inside_back nothing (skipped bs) u rest h.1)), r.2)
-    | inr h ↦ elim (chosen (is_e b) _ _ _ h.1) [
-      | inl k ↦ never _ _ k.1
-      | inr k ↦ never _ _ k.1
+      | inl h ↦ let r = skipped_back bs in
+          (r.0, ap (λ (c : ℕ). c ∷ bs) (is_it b 40 h.0) ∙ ap (λ (t : List ℕ). 40 ∷ t) (r.1 ∙ ap (λ (t : List ℕ). r.0 ++ t) (inside_back nothing (skipped bs) u rest h.1)), r.2)
+      | inr h ↦ elim (chosen (is_e b) _ _ _ h.1) [
+        | inl k ↦ never _ _ k.1
+        | inr k ↦ never _ _ k.1
       ]
     ]
 
@@ -233,13 +231,13 @@ more_back bs m rest e = let r = skipped_back bs in at r.0 r.2 (skipped bs) r.1 e
     at blanks are [] is e = never _ _ e
     at blanks are (b ∷ left) is e =
         elim (chosen (b == 44) _ _ _ e) [
-        | inl h ↦ let r = skipped_back left in
-            let q = ok_parts true m (skipped left) rest h.1 in
-            subst (λ (g : Bool). Goes g bs rest) q.0 (blanks, r.0, is ∙ ap (λ (t : List ℕ). blanks ++ t) (ap (λ (c : ℕ). c ∷ left) (is_it b 44 h.0) ∙ ap (λ (t : List ℕ). 44 ∷ t) (r.1 ∙ ap (λ (t : List ℕ). r.0 ++ t) q.1)), are, r.2)
-        | inr h ↦ elim (chosen (b == 41) _ _ _ h.1) [
-          | inl k ↦ let q = ok_parts false m left rest k.1 in
-              subst (λ (g : Bool). Goes g bs rest) q.0 (blanks, is ∙ ap (λ (t : List ℕ). blanks ++ t) (ap (λ (c : ℕ). c ∷ left) (is_it b 41 k.0) ∙ ap (λ (t : List ℕ). 41 ∷ t) q.1), are)
-          | inr k ↦ never _ _ k.1
+          | inl h ↦ let r = skipped_back left in
+              let q = ok_parts true m (skipped left) rest h.1 in
+              subst (λ (g : Bool). Goes g bs rest) q.0 (blanks, r.0, is ∙ ap (λ (t : List ℕ). blanks ++ t) (ap (λ (c : ℕ). c ∷ left) (is_it b 44 h.0) ∙ ap (λ (t : List ℕ). 44 ∷ t) (r.1 ∙ ap (λ (t : List ℕ). r.0 ++ t) q.1)), are, r.2)
+          | inr h ↦ elim (chosen (b == 41) _ _ _ h.1) [
+            | inl k ↦ let q = ok_parts false m left rest k.1 in
+                subst (λ (g : Bool). Goes g bs rest) q.0 (blanks, is ∙ ap (λ (t : List ℕ). blanks ++ t) (ap (λ (c : ℕ). c ∷ left) (is_it b 41 k.0) ∙ ap (λ (t : List ℕ). 41 ∷ t) q.1), are)
+            | inr k ↦ never _ _ k.1
           ]
         ]
 
@@ -250,8 +248,8 @@ close_back bs u rest e = let r = skipped_back bs in at r.0 r.2 (skipped bs) r.1 
     at blanks are [] is e = never _ _ e
     at blanks are (b ∷ left) is e =
         elim (chosen (b == 41) _ _ _ e) [
-        | inl h ↦ (blanks, is ∙ ap (λ (t : List ℕ). blanks ++ t) (ap (λ (c : ℕ). c ∷ left) (is_it b 41 h.0) ∙ ap (λ (t : List ℕ). 41 ∷ t) (ok_parts tt u left rest h.1).1), are)
-        | inr h ↦ never _ _ h.1
+          | inl h ↦ (blanks, is ∙ ap (λ (t : List ℕ). blanks ++ t) (ap (λ (c : ℕ). c ∷ left) (is_it b 41 h.0) ∙ ap (λ (t : List ℕ). 41 ∷ t) (ok_parts tt u left rest h.1).1), are)
+          | inr h ↦ never _ _ h.1
         ]
 
 module _ {X : Type 0} (Lang : X → List ℕ → Type 0) (item : List ℕ → Outcome X) (sound : IsSound Lang item) where
@@ -265,10 +263,11 @@ module _ {X : Type 0} (Lang : X → List ℕ → Type 0) (item : List ℕ → Ou
   one_more : (bytes : List ℕ) (x : X) (rest after : List ℕ) (xs : List X) (end : List ℕ) → Took Lang bytes x rest → Goes true rest after → Members after xs end → Members bytes (x ∷ xs) end
   one_more bytes x rest after [] end t g m = absurd m.2
   one_more bytes x rest after (y ∷ xs) end t g m =
-      let inner : g.0 ++ 44 ∷ (g.1 ++ (m.0 ++ end)) ≡ (g.0 ++ 44 ∷ (g.1 ++ m.0)) ++ end = ap (λ (u : List ℕ). g.0 ++ 44 ∷ u) (sym (append_assoc g.1 m.0 end)) ∙ sym (append_assoc g.0 (44 ∷ (g.1 ++ m.0)) end) in
-      (t.text ++ (g.0 ++ 44 ∷ (g.1 ++ m.0)),
-       t.parts ∙ ap (λ (u : List ℕ). t.text ++ u) (g.2 ∙ ap (λ (u : List ℕ). g.0 ++ 44 ∷ (g.1 ++ u)) m.1 ∙ inner) ∙ sym (append_assoc t.text (g.0 ++ 44 ∷ (g.1 ++ m.0)) end),
-       (t.text, g.0, g.1, m.0, refl, t.means, g.3, g.4, m.2))
+      let inner : g.0 ++ 44 ∷ (g.1 ++ (m.0 ++ end)) ≡ (g.0 ++ 44 ∷ (g.1 ++ m.0)) ++ end = ap (λ (u : List ℕ). g.0 ++ 44 ∷ u) (sym (append_assoc g.1 m.0 end)) ∙ sym (append_assoc g.0 (44 ∷ (g.1 ++ m.0)) end) in (
+        t.text ++ (g.0 ++ 44 ∷ (g.1 ++ m.0)),
+        t.parts ∙ ap (λ (u : List ℕ). t.text ++ u) (g.2 ∙ ap (λ (u : List ℕ). g.0 ++ 44 ∷ (g.1 ++ u)) m.1 ∙ inner) ∙ sym (append_assoc t.text (g.0 ++ 44 ∷ (g.1 ++ m.0)) end),
+        (t.text, g.0, g.1, m.0, refl, t.means, g.3, g.4, m.2),
+      )
 
   items_back : (n : ℕ) (bytes : List ℕ) (xs : List X) (rest : List ℕ) → items_at item n bytes ≡ Ok (xs, rest) → Members bytes xs rest
   items_back zero bytes xs rest e = never _ _ e
@@ -280,16 +279,16 @@ module _ {X : Type 0} (Lang : X → List ℕ → Type 0) (item : List ℕ → Ou
       let m = more_back b2.0.1 b3.0.0 b3.0.1 b3.1 in
       let q = ok_parts (b2.0.0, b3.0.0) b1.0.0 b3.0.1 b1.0.1 b3.2 in
       elim (chosen b1.0.0.1 _ _ _ b1.2) [
-      | inl h ↦ let b4 = bind_ok (items_at item n b1.0.1) _ _ h.1 in
-          let u = items_back n b1.0.1 b4.0.0 b4.0.1 b4.1 in
-          let r = ok_parts (b1.0.0.0 ∷ b4.0.0) xs b4.0.1 rest b4.2 in
-          let goes : Goes true b2.0.1 b1.0.1 = subst (λ (g : Bool). Goes g b2.0.1 b1.0.1) (ap (λ (a : X × Bool). a.1) q.0 ∙ h.0) (subst (λ (a : List ℕ). Goes b3.0.0 b2.0.1 a) q.1 m) in
-          let whole : Members bytes (b2.0.0 ∷ b4.0.0) b4.0.1 = one_more bytes b2.0.0 b2.0.1 b1.0.1 b4.0.0 b4.0.1 t goes u in
-          subst (λ (a : List ℕ). Members bytes xs a) r.1 (subst (λ (a : List X). Members bytes a b4.0.1) (ap (λ (a : X × Bool). a.0 ∷ b4.0.0) q.0 ∙ r.0) whole)
-      | inr h ↦ let r = ok_parts (b1.0.0.0 ∷ []) xs b1.0.1 rest h.1 in
-          let goes : Goes false b2.0.1 b1.0.1 = subst (λ (g : Bool). Goes g b2.0.1 b1.0.1) (ap (λ (a : X × Bool). a.1) q.0 ∙ h.0) (subst (λ (a : List ℕ). Goes b3.0.0 b2.0.1 a) q.1 m) in
-          let whole : Members bytes (b2.0.0 ∷ []) b1.0.1 = last bytes b2.0.0 b2.0.1 b1.0.1 t goes in
-          subst (λ (a : List ℕ). Members bytes xs a) r.1 (subst (λ (a : List X). Members bytes a b1.0.1) (ap (λ (a : X × Bool). a.0 ∷ []) q.0 ∙ r.0) whole)
+        | inl h ↦ let b4 = bind_ok (items_at item n b1.0.1) _ _ h.1 in
+            let u = items_back n b1.0.1 b4.0.0 b4.0.1 b4.1 in
+            let r = ok_parts (b1.0.0.0 ∷ b4.0.0) xs b4.0.1 rest b4.2 in
+            let goes : Goes true b2.0.1 b1.0.1 = subst (λ (g : Bool). Goes g b2.0.1 b1.0.1) (ap (λ (a : X × Bool). a.1) q.0 ∙ h.0) (subst (λ (a : List ℕ). Goes b3.0.0 b2.0.1 a) q.1 m) in
+            let whole : Members bytes (b2.0.0 ∷ b4.0.0) b4.0.1 = one_more bytes b2.0.0 b2.0.1 b1.0.1 b4.0.0 b4.0.1 t goes u in
+            subst (λ (a : List ℕ). Members bytes xs a) r.1 (subst (λ (a : List X). Members bytes a b4.0.1) (ap (λ (a : X × Bool). a.0 ∷ b4.0.0) q.0 ∙ r.0) whole)
+        | inr h ↦ let r = ok_parts (b1.0.0.0 ∷ []) xs b1.0.1 rest h.1 in
+            let goes : Goes false b2.0.1 b1.0.1 = subst (λ (g : Bool). Goes g b2.0.1 b1.0.1) (ap (λ (a : X × Bool). a.1) q.0 ∙ h.0) (subst (λ (a : List ℕ). Goes b3.0.0 b2.0.1 a) q.1 m) in
+            let whole : Members bytes (b2.0.0 ∷ []) b1.0.1 = last bytes b2.0.0 b2.0.1 b1.0.1 t goes in
+            subst (λ (a : List ℕ). Members bytes xs a) r.1 (subst (λ (a : List X). Members bytes a b1.0.1) (ap (λ (a : X × Bool). a.0 ∷ []) q.0 ∙ r.0) whole)
       ]
 
   pub list_sound : (nothing : WktCause) → IsSound (IsList Lang) (list_at nothing item)
@@ -328,17 +327,17 @@ pub marked_sound : IsSound IsMarked marked_at
 marked_sound [] point rest e = let t = point_sound [] point rest e in record { text = t.text; parts = t.parts; means = inl t.means }
 marked_sound (b ∷ bs) point rest e =
     elim (chosen (b == 40) _ _ _ e) [
-    | inl h ↦ let t = single_sound (b ∷ bs) point rest h.1 in record { text = t.text; parts = t.parts; means = inr t.means }
-    | inr h ↦ let t = point_sound (b ∷ bs) point rest h.1 in record { text = t.text; parts = t.parts; means = inl t.means }
+      | inl h ↦ let t = single_sound (b ∷ bs) point rest h.1 in record { text = t.text; parts = t.parts; means = inr t.means }
+      | inr h ↦ let t = point_sound (b ∷ bs) point rest h.1 in record { text = t.text; parts = t.parts; means = inl t.means }
     ]
 
 ruled_back : (is_ring : Bool) (ps qs : List p.Point) (left rest : List ℕ) → ruled is_ring ps left ≡ Ok (qs, rest) → (ps ≡ qs) × (left ≡ rest) × (keeps is_ring ps ≡ true)
 ruled_back true ps qs left rest e =
     elim (chosen (nat_lt (length ps) 4) _ _ _ e) [
-    | inl h ↦ never _ _ h.1
-    | inr h ↦ elim (chosen (not (is_closed ps)) _ _ _ h.1) [
-      | inl k ↦ never _ _ k.1
-      | inr k ↦ let q = ok_parts ps qs left rest k.1 in (q.0, q.1, both (length ps) (is_closed ps) h.0 k.0)
+      | inl h ↦ never _ _ h.1
+      | inr h ↦ elim (chosen (not (is_closed ps)) _ _ _ h.1) [
+        | inl k ↦ never _ _ k.1
+        | inr k ↦ let q = ok_parts ps qs left rest k.1 in (q.0, q.1, both (length ps) (is_closed ps) h.0 k.0)
       ]
     ]
   where
@@ -347,8 +346,8 @@ ruled_back true ps qs left rest e =
     both n false h k = absurd cc
 ruled_back false ps qs left rest e =
     elim (chosen (nat_lt (length ps) 2) _ _ _ e) [
-    | inl h ↦ never _ _ h.1
-    | inr h ↦ let q = ok_parts ps qs left rest h.1 in (q.0, q.1, enough (length ps) h.0)
+      | inl h ↦ never _ _ h.1
+      | inr h ↦ let q = ok_parts ps qs left rest h.1 in (q.0, q.1, enough (length ps) h.0)
     ]
   where
     enough : (n : ℕ) → nat_lt n 2 ≡ false → nat_le 2 n ≡ true
@@ -388,9 +387,9 @@ word_sound [] most bytes k rest e = none (drop most bytes) e
     none (b ∷ left) e = never _ _ e
 word_sound (l ∷ ks) most bytes k rest e =
     elim (chosen (common (word l) bytes == length (word l)) _ _ _ e) [
-    | inl h ↦ let long = is_it (common (word l) bytes) (length (word l)) h.0 in
-        let c = common_back (word l) bytes long in
-        let q = ok_parts l k (drop (common (word l) bytes) bytes) rest h.1 in
-        (c.0, c.1 ∙ ap (λ (t : List ℕ). c.0 ++ t) (ap (λ (n : ℕ). drop n bytes) (sym long) ∙ q.1), c.2 ∙ ap word q.0)
-    | inr h ↦ word_sound ks (max most (common (word l) bytes)) bytes k rest h.1
+      | inl h ↦ let long = is_it (common (word l) bytes) (length (word l)) h.0 in
+          let c = common_back (word l) bytes long in
+          let q = ok_parts l k (drop (common (word l) bytes) bytes) rest h.1 in
+          (c.0, c.1 ∙ ap (λ (t : List ℕ). c.0 ++ t) (ap (λ (n : ℕ). drop n bytes) (sym long) ∙ q.1), c.2 ∙ ap word q.0)
+      | inr h ↦ word_sound ks (max most (common (word l) bytes)) bytes k rest h.1
     ]

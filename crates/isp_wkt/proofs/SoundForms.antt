@@ -1,7 +1,6 @@
 -- A form that is read is one that the text means, and what a short text means keeps the rules.
-use Rattle.std.proofs.Common.{◌≡◌, ℕ, ℤ, zero, suc, ◌+◌, ◌-◌, ◌<◌, ◌≤◌, ◌&&◌, nat_le, Bool, true, false, ◌⊎◌, inl, inr, List, [], ◌∷◌, ◌++◌, length, map, Result, Ok, Err, refl, sym, ap, subst, ◌∙◌, append_assoc, arith}
+use Rattle.std.proofs.Common.{◌≡◌, ℕ, zero, suc, true, false, List, [], ◌∷◌, ◌++◌, map, Result, Ok, Err, refl, sym, ap, subst, ◌∙◌, append_assoc}
 use Rattle.std.proofs.lemmas.List.{append-nil}
-use Rattle.isp_geom.specs.declared.form.Point as p
 use Rattle.isp_geom.specs.declared.form.Form.{Form, Form-F, out-Form, roll-Form, out-roll-Form}
 use Rattle.isp_geom.specs.declared.form.Form.TheVariants.{Point, LineString, Polygon, MultiPoint, MultiLineString, MultiPolygon, Collection, rolls-Point, rolls-LineString, rolls-Polygon, rolls-MultiPoint, rolls-MultiLineString, rolls-MultiPolygon, rolls-Collection}
 use Rattle.isp_wkt.specs.declared.cause.Fault.{Fault}
@@ -9,9 +8,9 @@ use Rattle.isp_wkt.specs.declared.cause.WktCause.TheVariants.{Empty, TooDeep}
 use Rattle.isp_wkt.specs.declared.kind.Kind.{Kind}
 use Rattle.isp_wkt.specs.declared.kind.Kind.TheVariants as kind
 use Rattle.isp_wkt.specs.Words.{word, upper}
-use Rattle.isp_wkt.specs.Grammar.{AreBlanks, IsSingle, IsPair, IsList, IsLine, AreLines, IsMarked, IsWorded, IsLevel, Means, IsText}
+use Rattle.isp_wkt.specs.Grammar.{IsSingle, IsPair, IsList, IsLine, AreLines, IsMarked, IsWorded, IsLevel, Means, IsText}
 use Rattle.isp_wkt.specs.Reading.{◌>>=◌, Outcome, kinds, word_in, skipped, made, body_at, geometry_at, members_at, deep_at, deep_paren_at, list_at, single_at, line_at, lines_at, marked_at, rest_at, text_at, fault}
-use Rattle.isp_wkt.proofs.Sound.{bind_ok, chosen, ok_parts, Took, IsSound, skipped_back, list_sound, single_sound, marked_sound, line_sound, lines_sound, word_sound}
+use Rattle.isp_wkt.proofs.Sound.{bind_ok, ok_parts, Took, IsSound, skipped_back, list_sound, single_sound, marked_sound, line_sound, lines_sound, word_sound}
 
 never : {A P : Type 0} (f : Fault) (x : A) → ◌≡◌ {A = Result A Fault} (Err f) (Ok x) → P
 never f x e = absurd cc

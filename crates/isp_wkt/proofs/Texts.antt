@@ -1,7 +1,7 @@
 -- The equations of `printed`, one for each kind.
 use Rattle.std.proofs.Common.{◌≡◌, ℕ, ◌++◌, ap, sym, ◌∙◌, List, [], ◌∷◌, map, refl}
 use Rattle.isp_geom.specs.declared.form.Point as p
-use Rattle.isp_geom.specs.declared.form.Form.{Form, Form-F, roll-Form, fold-roll-Form}
+use Rattle.isp_geom.specs.declared.form.Form.{Form, Form-F, fold-roll-Form}
 use Rattle.isp_geom.specs.declared.form.Form.TheVariants.{Point, LineString, Polygon, MultiPoint, MultiLineString, MultiPolygon, Collection, rolls-Point, rolls-LineString, rolls-Polygon, rolls-MultiPoint, rolls-MultiLineString, rolls-MultiPolygon, rolls-Collection}
 use Rattle.isp_wkt.specs.declared.kind.Kind.TheVariants as kind
 use Rattle.isp_wkt.specs.Words.{word}

@@ -1,7 +1,7 @@
 -- Which text means which geometry (OpenGIS Implementation Specification for Simple Features; the exact grammar is this
 -- project's own). Each definition says of a value and a text whether the text is one of those that mean the value. Blanks
 -- are spaces and tabs.
-use Rattle.std.specs.Prelude.{◌≡◌, ℕ, zero, suc, ◌+◌, ◌-◌, ◌*◌, ◌<◌, ◌≤◌, ◌==◌, ◌&&◌, nat_le, ℤ, pos, neg_ℤ, Bool, true, false, ◌⊎◌, List, [], ◌∷◌, ◌++◌, length, map, if◌then◌else◌}
+use Rattle.std.specs.Prelude.{◌≡◌, ℕ, zero, suc, ◌+◌, ◌-◌, ◌*◌, ◌<◌, ◌≤◌, ◌==◌, ◌&&◌, nat_le, ℤ, Bool, true, false, ◌⊎◌, List, [], ◌∷◌, ◌++◌, length, map, if◌then◌else◌}
 use Rattle.std.specs.List.{fold, list_all}
 use Rattle.isp_geom.specs.declared.form.Point as p
 use Rattle.isp_geom.specs.declared.form.Form.{Form, Form-F, out-Form}

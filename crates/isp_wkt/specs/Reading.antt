@@ -287,3 +287,9 @@ abbrev pub Answers : Result Form WktError → List ℕ → Type 0
 Answers (Ok form) text = text_at text ≡ Ok (form, [])
 Answers (Err (errors.Bad cause at)) text = fault_of text ≡ Some (cause, at)
 Answers (Err errors.OutOfMemory) text = Unit {0}
+
+-- this form was read, unless memory ran out
+abbrev pub IsRead : Result Form WktError → Form → Type 0
+IsRead (Ok read) form = read ≡ form
+IsRead (Err (errors.Bad cause at)) form = ⊥
+IsRead (Err errors.OutOfMemory) form = Unit {0}

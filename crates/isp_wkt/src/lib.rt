@@ -4,11 +4,14 @@
 mod cause;
 mod cursor;
 mod kind;
+mod laws;
 mod number;
 mod printer;
 mod reader;
+#[cfg(test)]
+mod tests;
 
 pub use cause::{WktCause, WktError};
+pub use laws::{law_one_meaning, law_printed_text_means};
 pub use printer::print;
 pub use reader::read;
-

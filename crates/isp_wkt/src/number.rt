@@ -59,7 +59,10 @@ fn digits(from: &mut Cursor<'_>) -> Result<u64, Fault>
         let next = size * 10 + u64::from(*b - b'0');
         if next > LIMIT {
             let left = bytes.len() - i;
-            return Err(Fault { cause: WktCause::OutOfRange, left });
+            return Err(Fault {
+                cause: WktCause::OutOfRange,
+                left,
+            });
         }
         size = next;
     }

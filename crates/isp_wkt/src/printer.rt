@@ -4,6 +4,7 @@ ghost use Rattle.std.specs.Prelude.{◌≡◌, ◌++◌, [], ◌∷◌, OnOk, If
 ghost use Rattle.std.specs.Fmt.{signed_decimal};
 ghost use Rattle.isp_wkt.specs.Printed.{pair, enclosed, listed, marked, printed};
 ghost use Rattle.isp_wkt.specs.Words.{word};
+ghost use Rattle.isp_wkt.specs.Grammar.{IsText};
 ghost use Rattle.isp_wkt.specs.declared.kind.Kind.TheVariants as kind;
 
 use crate::kind::{Kind, word};
@@ -16,7 +17,8 @@ use std::alloc::{AllocError, Global};
 /// The geometry's canonical text: words in upper case, no blanks but one between the coordinates of a point, and
 /// parentheses round each point of a MULTIPOINT. The error is want of memory.
 pub fn print(alloc: Global, geometry: &Geometry) -> Result<Bytes, AllocError>
-    ensures { IfOk result (λ text. text ≡ printed geometry.now) }
+    ensures printed { IfOk result (λ text. text ≡ printed geometry.now) }
+    ensures means { IfOk result (λ text. IsText geometry.now text) }
 {
     let mut out = Vec::new(alloc);
     print_form(&mut out, geometry.form())?;

@@ -1,17 +1,17 @@
 //! Reading geometries from well-known text.
 
-ghost use Rattle.std.specs.Prelude.{◌≡◌, ◌≤◌, ◌-◌, ℕ, List, length, [], ◌∷◌, IfOk, Ok, Err, true, false};
-ghost use Rattle.isp_wkt.specs.Reading.{Gives, Reads, Outcome, point_at, marked_at, single_at, line_at, lines_at, list_at, items_at, ruled, geometry_at, members_at, member_at, word_in, rest_at, ReadsForm, text_at, kinds, skipped, Answers};
+ghost use Rattle.std.specs.Prelude.{◌≡◌, ◌≤◌, ◌-◌, ◌+◌, ℕ, List, length, [], ◌∷◌, IfOk, Ok, Err, true, false};
+ghost use Rattle.isp_wkt.specs.Reading.{Gives, Reads, Outcome, point_at, marked_at, single_at, line_at, lines_at, list_at, items_at, ruled, geometry_at, members_at, member_at, word_in, rest_at, ReadsForm, text_at, kinds, skipped, Answers, IsRead};
 ghost use Rattle.isp_wkt.specs.declared.cause.WktCause.{WktCause};
 ghost use Rattle.isp_wkt.specs.declared.cause.WktCause.TheVariants.{Empty};
 ghost use Rattle.isp_geom.specs.declared.form.Form.{Form};
-ghost use Rattle.isp_geom.specs.Rules.{is_closed};
+ghost use Rattle.isp_wkt.specs.Grammar.{IsText};
 
 use crate::cause::{Fault, Stop, WktCause, WktError};
 use crate::cursor::Cursor;
 use crate::kind::{KINDS, Kind};
 use crate::number::point;
-use isp_geom::{Form, Geometry, Members, Point, Points, Rings};
+use isp_geom::{Form, Geometry, Members, Point, Points, Rings, is_closed};
 use sqlite_items::Items;
 use std::alloc::Global;
 
@@ -88,17 +88,26 @@ impl Item for Polygon {
     }
 }
 
+// A fault at the byte that was read last.
+fn fault_before(from: &Cursor<'_>, cause: WktCause) -> Fault
+    ensures { result ≡ record { cause = cause; left = length from.now + 1 } }
+{
+    Fault {
+        cause,
+        left: from.len() + 1,
+    }
+}
+
 // The rules of a line that was read up to its parenthesis.
 fn ruled(from: &Cursor<'_>, is_ring: bool, points: Points) -> Result<Points, Fault>
     ensures { Reads result (ruled is_ring points from.now) from.now }
 {
-    let left = from.len() + 1;
     let least = if is_ring { 4 } else { 2 };
     if points.len() < least {
-        return Err(Fault { cause: WktCause::TooFew, left });
+        return Err(fault_before(from, WktCause::TooFew));
     }
-    if is_ring && !isp_geom::is_closed(points.as_slice()) {
-        return Err(Fault { cause: WktCause::Unclosed, left });
+    if is_ring && !is_closed(points.as_slice()) {
+        return Err(fault_before(from, WktCause::Unclosed));
     }
     Ok(points)
 }
@@ -136,11 +145,7 @@ fn list<I: Item>(
 }
 
 // A member of a list, and whether the list goes on behind it.
-fn member<I: Item>(
-    alloc: Global,
-    from: &mut Cursor<'_>,
-    item: &I,
-) -> Result<(I::Out, bool), Stop>
+fn member<I: Item>(alloc: Global, from: &mut Cursor<'_>, item: &I) -> Result<(I::Out, bool), Stop>
     ensures { Gives result (member_at (I.item_at item.now) from.old) from.new }
 {
     let member = item.read(alloc, from)?;
@@ -215,12 +220,7 @@ fn members(alloc: Global, from: &mut Cursor<'_>, depth: u8) -> Result<Members, S
 
 // The members of a collection up to its closing parenthesis.
 #[cycle(geometries)]
-fn forms(
-    alloc: Global,
-    from: &mut Cursor<'_>,
-    most: usize,
-    depth: u8,
-) -> Result<Members, Stop>
+fn forms(alloc: Global, from: &mut Cursor<'_>, most: usize, depth: u8) -> Result<Members, Stop>
     ensures { Gives result (items_at (geometry_at (members_at depth)) most from.old) from.new }
 {
     let mut found = Items::new(alloc);
@@ -249,7 +249,11 @@ fn rest(from: &mut Cursor<'_>) -> Result<(), Fault>
     ensures { (form : Form) → ReadsForm result (rest_at form (skipped from.old)) form }
 {
     from.skip();
-    if from.len() == 0 { Ok(()) } else { Err(from.fault(WktCause::Trailing)) }
+    if from.len() == 0 {
+        Ok(())
+    } else {
+        Err(from.fault(WktCause::Trailing))
+    }
 }
 
 // The form of a text.
@@ -271,13 +275,21 @@ const DEPTH: u8 = 8;
 /// grammar, with the cause and the place of its fault; OutOfMemory is want of memory.
 pub fn read(alloc: Global, text: &[u8]) -> Result<Geometry, WktError>
     requires { length text.now ≤ 65536 }
-    ensures read { Answers result text.now }
+    // What is read is what the text means.
+    ensures found { IfOk result (λ g. IsText g text.now) }
+    // A text that means a geometry is read, unless memory runs out.
+    ensures only { (form : Form) → IsText form text.now → IsRead result form }
+    // Which fault it is.
+    ensures exact { Answers result text.now }
 {
     match form_of(alloc, text) {
         Ok(form) => Ok(Geometry { form }),
         Err(Stop::Bad(fault)) => {
             let at = text.len().saturating_sub(fault.left);
-            Err(WktError::Bad { cause: fault.cause, at })
+            Err(WktError::Bad {
+                cause: fault.cause,
+                at,
+            })
         }
         Err(Stop::OutOfMemory) => Err(WktError::OutOfMemory),
     }

@@ -1,4 +1,4 @@
-use Rattle.std.proofs.Common.{◌≡◌, ◌+◌, ◌≤◌, drop, length}
+use Rattle.std.proofs.Common.{◌≡◌, ◌+◌, drop, length}
 use Rattle.isp_wkt.specs.Words.{common}
 use Rattle.isp_wkt.proofs.cursor.common.Given as goal
 

@@ -1,5 +1,5 @@
 use Rattle.std.proofs.Common.{◌≡◌, ◌++◌, drop}
-use Rattle.isp_wkt.specs.Printed.{chained, printed, marked}
+use Rattle.isp_wkt.specs.Printed.{chained, printed}
 use Rattle.isp_wkt.proofs.printer.+forms.Given as goal
 
 abbrev pub invariant-print_members-loop-member : goal.invariant-print_members-loop-member

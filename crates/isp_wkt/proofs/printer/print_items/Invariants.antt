@@ -1,5 +1,5 @@
 use Rattle.std.proofs.Common.{◌≡◌, ◌++◌, drop}
-use Rattle.isp_wkt.specs.Printed.{chained, printed, marked}
+use Rattle.isp_wkt.specs.Printed.{chained}
 use Rattle.isp_wkt.proofs.printer.print_items.Given as goal
 
 abbrev pub invariant-loop-item : goal.invariant-loop-item

@@ -1,5 +1,5 @@
 use Rattle.std.proofs.Common.{◌≡◌, ◌++◌, drop}
-use Rattle.isp_wkt.specs.Printed.{chained, printed, marked}
+use Rattle.isp_wkt.specs.Printed.{chained, marked}
 use Rattle.isp_wkt.proofs.printer.print_points.Given as goal
 
 abbrev pub invariant-loop-point : goal.invariant-loop-point
