@@ -1,0 +1,7 @@
+pub mod AllPoints
+pub mod Forms
+pub mod Levels
+pub mod Readers
+pub mod Sequences
+pub mod Spellings
+pub mod Whole

@@ -1,0 +1,5 @@
+pub mod Bounds
+pub mod Laws
+pub mod Reading
+pub mod Rules
+pub mod Spelling

@@ -1,0 +1,17 @@
+//! Well-known text of geometries: read with the exact cause and place of a fault, and printed in one canonical form.
+#![tactic(auto)]
+
+mod cause;
+mod cursor;
+mod kind;
+mod laws;
+mod number;
+mod printer;
+mod reader;
+#[cfg(test)]
+mod tests;
+
+pub use cause::{WktCause, WktError};
+pub use laws::{law_one_meaning, law_printed_text_means};
+pub use printer::print;
+pub use reader::read;
