@@ -1,2 +1,10 @@
 pub mod Calls
+mod Images
+mod Keeping
+mod Meets
+mod Momentary
+pub mod Moments
 mod Pieces
+mod Replay
+mod Stopping
+mod Storing

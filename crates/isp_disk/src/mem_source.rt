@@ -21,7 +21,12 @@ pub struct MemSource {
 impl Model for MemSource {
     ghost Value = { SourceState };
 
-    ghost view = { λ s. record { left = drop s.given s.bytes.items; failing = s.failing.items; made = s.made; faults = s.faults } };
+    ghost view = { λ s. record {
+      left = drop s.given s.bytes.items;
+      failing = s.failing.items;
+      made = s.made;
+      faults = s.faults;
+    } };
 
     ghost invariant = { λ s. s.given ≤ length s.bytes.items };
 }
