@@ -1,5 +1,6 @@
 -- Why a call ended before its end: a fault whose count rose, or want of memory.
-use Rattle.std.specs.Prelude.{ℕ, ◌≤◌, Result, IfErr}
+use Rattle.std.specs.Prelude.{◌≡◌, ℕ, ◌≤◌, Result, IfErr}
+use Rattle.isp_disk.specs.Moments.{Image}
 use Rattle.isp_disk.specs.Outside.{Rose}
 use Rattle.isp_run.specs.declared.stop.Stop.{Stop}
 use Rattle.isp_run.specs.declared.stop.Stop.TheVariants.{Fault, Memory}
@@ -13,3 +14,8 @@ IsCaused before now Memory = Unit {0}
 pub record HasStops {T : Type 0} (before now : ℕ) (result : Result T Stop) : Type 0 where
   pub later : before ≤ now
   pub cause : IfErr result (IsCaused before now)
+
+-- the bytes of the disk and its count of faults are as before: no call of it was made
+pub record KeepsDisk (image : Image) (faults : ℕ) (image_now : Image) (faults_now : ℕ) : Type 0 where
+  pub bytes : image_now ≡ image
+  pub count : faults_now ≡ faults

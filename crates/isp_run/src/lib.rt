@@ -4,6 +4,7 @@
 ghost use Rattle.std.specs.Prelude.{◌≡◌, ◌↔◌, ℕ, false, true, List, [], None, Some, IfSome, IsSome, map, string_bytes};
 ghost use Rattle.isp_disk.specs.Outside.{Rose};
 ghost use Rattle.isp_sql.specs.Reading.{script_of};
+ghost use Rattle.isp_run.specs.Causes.{KeepsDisk};
 ghost use Rattle.isp_run.specs.Ran.{IsDue, IsQuiet, IsRead, RanOf};
 ghost use Rattle.isp_run.specs.Words.{is_run};
 
@@ -54,6 +55,9 @@ pub fn run<S: Source, W: World>(
 
     // Nothing is printed before the script was read.
     ensures quiet { IsQuiet result.0 → W.printed result.1 ≡ W.printed world }
+
+    // The disk is left alone: no table stands on it yet.
+    ensures disk { KeepsDisk (W.image world) (W.disk_faults world) (W.image result.1) (W.disk_faults result.1) }
 {
     let mut world = world;
     if !is_run(words) {

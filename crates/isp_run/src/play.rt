@@ -8,7 +8,7 @@ ghost use Rattle.isp_plain.specs.Serial.{done, place_at};
 ghost use Rattle.isp_plain.specs.Spelling.{line_of};
 ghost use Rattle.isp_plain.specs.Texts.{reply_text};
 ghost use Rattle.isp_sql.specs.Meaning.{narrow};
-ghost use Rattle.isp_run.specs.Causes.{HasStops};
+ghost use Rattle.isp_run.specs.Causes.{HasStops, KeepsDisk};
 
 use crate::stop::Stop;
 use isp_disk::World;
@@ -55,6 +55,7 @@ fn do_text(
 fn print<W: World>(world: &mut W, bytes: &[u8]) -> Result<(), Stop>
     ensures told { OnOk result (W.printed world.new ≡ told_behind (W.printed world.old) bytes.now) }
     ensures cause { HasStops (W.print_faults world.old) (W.print_faults world.new) result }
+    ensures disk { KeepsDisk (W.image world.old) (W.disk_faults world.old) (W.image world.new) (W.disk_faults world.new) }
 {
     match world.print(bytes) {
         Ok(()) => Ok(()),
@@ -72,6 +73,7 @@ fn print_answer<W: World>(
 ) -> Result<(), Stop>
     ensures told { OnOk result (W.printed world.new ≡ told_behind (W.printed world.old) (line_of (answer_with session number (reply_text reply.now)))) }
     ensures cause { HasStops (W.print_faults world.old) (W.print_faults world.new) result }
+    ensures disk { KeepsDisk (W.image world.old) (W.disk_faults world.old) (W.image world.new) (W.disk_faults world.new) }
 {
     let line = answer_line(
         alloc,
@@ -95,6 +97,7 @@ fn answer<W: World>(
     ensures told { OnOk result (W.printed world.new ≡ told_behind (W.printed world.old) (line_of (answer_to narrow session number text.now tables.old))) }
     ensures tables { OnOk result (tables.new ≡ (done narrow tables.old session false text.now).tables) }
     ensures cause { HasStops (W.print_faults world.old) (W.print_faults world.new) result }
+    ensures disk { KeepsDisk (W.image world.old) (W.disk_faults world.old) (W.image world.new) (W.disk_faults world.new) }
 {
     let reply = do_text(alloc, tables, session, text)?;
     print_answer(alloc, world, session, number, &reply)?;
@@ -112,6 +115,7 @@ fn answer_texts<W: World>(
     ensures told { OnOk result (W.printed world.new ≡ told_behind (W.printed world.old) (flat_map line_of (answers_to narrow session 1 texts.now tables.old))) }
     ensures tables { OnOk result (tables.new ≡ tables_after narrow session texts.now tables.old) }
     ensures cause { HasStops (W.print_faults world.old) (W.print_faults world.new) result }
+    ensures disk { KeepsDisk (W.image world.old) (W.disk_faults world.old) (W.image world.new) (W.disk_faults world.new) }
 {
     for (i, text) in texts.iter().enumerate() {
         answer(alloc, tables, world, session, i as u64 + 1, text)?;
@@ -138,6 +142,7 @@ fn answer_session<W: World>(
     ensures tables { OnOk result (tables.new ≡ tables_after narrow session.now.number session.now.texts tables.old) }
     ensures small { OnOk result ((session.now.number < 2 ^ 64) × (length session.now.texts + 1 < 2 ^ 64)) }
     ensures cause { HasStops (W.print_faults world.old) (W.print_faults world.new) result }
+    ensures disk { KeepsDisk (W.image world.old) (W.disk_faults world.old) (W.image world.new) (W.disk_faults world.new) }
 {
     let number = session.number;
     let texts = session.texts.as_slice();
@@ -155,6 +160,7 @@ fn answer_sessions<W: World>(
     ensures told { OnOk result (W.printed world.new ≡ told_behind (W.printed world.old) (flat_map line_of (sessions_answers narrow sessions.now tables.old))) }
     ensures small { OnOk result (AreSmall sessions.now) }
     ensures cause { HasStops (W.print_faults world.old) (W.print_faults world.new) result }
+    ensures disk { KeepsDisk (W.image world.old) (W.disk_faults world.old) (W.image world.new) (W.disk_faults world.new) }
 {
     for session in sessions {
         answer_session(alloc, tables, world, session)?;
@@ -167,6 +173,7 @@ pub fn play<W: World>(alloc: Global, script: &Script, world: &mut W) -> Result<(
     ensures told { OnOk result (W.printed world.new ≡ told_behind (W.printed world.old) (flat_map line_of (run_answers narrow script.now))) }
     ensures small { OnOk result ((length script.now.setup + 1 < 2 ^ 64) × AreSmall script.now.sessions) }
     ensures cause { HasStops (W.print_faults world.old) (W.print_faults world.new) result }
+    ensures disk { KeepsDisk (W.image world.old) (W.disk_faults world.old) (W.image world.new) (W.disk_faults world.new) }
 {
     let mut tables = Plain::new(alloc);
     let setup = script.setup.as_slice();

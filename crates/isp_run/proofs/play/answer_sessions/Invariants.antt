@@ -4,6 +4,7 @@ use Rattle.isp_disk.specs.Outside.{told_behind}
 use Rattle.isp_plain.specs.Alone.{AreSmall, sessions_answers}
 use Rattle.isp_plain.specs.Spelling.{line_of}
 use Rattle.isp_sql.specs.Meaning.{narrow}
+use Rattle.isp_run.specs.Causes.{KeepsDisk}
 use Rattle.isp_run.proofs.play.answer_sessions.Given as goal
 
 abbrev pub invariant-loop-session : goal.invariant-loop-session
@@ -12,3 +13,4 @@ invariant-loop-session g l =
     ≡ told_behind (g.W.World.printed l.fn.world) (flat_map line_of (sessions_answers narrow l.sessions l.fn.tables)))
     × (AreSmall (drop l.session-index l.sessions) → AreSmall l.sessions)
     × (g.W.World.print_faults l.fn.world ≤ g.W.World.print_faults l.world)
+    × KeepsDisk (g.W.World.image l.fn.world) (g.W.World.disk_faults l.fn.world) (g.W.World.image l.world) (g.W.World.disk_faults l.world)

@@ -4,6 +4,7 @@ use Rattle.isp_disk.specs.Outside.{told_behind}
 use Rattle.isp_plain.specs.Alone.{answers_to, tables_after}
 use Rattle.isp_plain.specs.Spelling.{line_of}
 use Rattle.isp_sql.specs.Meaning.{narrow}
+use Rattle.isp_run.specs.Causes.{KeepsDisk}
 use Rattle.isp_run.proofs.play.answer_texts.Given as goal
 
 abbrev pub invariant-loop-i : goal.invariant-loop-i
@@ -12,3 +13,4 @@ invariant-loop-i g l =
     ≡ told_behind (g.W.World.printed l.fn.world) (flat_map line_of (answers_to narrow l.session 1 l.texts l.fn.tables)))
     × (tables_after narrow l.session (drop l.i l.texts) l.tables ≡ tables_after narrow l.session l.texts l.fn.tables)
     × (g.W.World.print_faults l.fn.world ≤ g.W.World.print_faults l.world)
+    × KeepsDisk (g.W.World.image l.fn.world) (g.W.World.disk_faults l.fn.world) (g.W.World.image l.world) (g.W.World.disk_faults l.world)
