@@ -1,2 +1,3 @@
 pub mod FirstRowLaws
+pub mod GrammarLaws
 pub mod RunLaws

@@ -1,5 +1,5 @@
 -- What was printed, piece by piece, and what a run that was done has printed.
-use Rattle.std.proofs.Common.{◌≡◌, ◌∙◌, ℕ, ◌<◌, ◌≤◌, ◌+◌, ◌^◌, Bool, true, false, nat_lt, ap, sym, subst, refl, List, [], ◌++◌, length, length-append, append_assoc, append-nil, arith, Option, Some, None, ◌⊎◌, inl, inr, if◌then◌else◌}
+use Rattle.std.proofs.Common.{◌≡◌, ◌∙◌, ℕ, ◌<◌, ◌≤◌, ◌+◌, ◌-◌, ◌^◌, Bool, true, false, nat_lt, ap, sym, subst, refl, List, [], ◌++◌, length, length-append, append_assoc, append-nil, arith, Option, Some, None, ◌⊎◌, inl, inr, if◌then◌else◌}
 use Rattle.std.specs.Prelude.{All, IfSome, IsSome}
 use Rattle.std.proofs.lemmas.Bool.{cases_lt}
 use Rattle.std.proofs.lemmas.Bool.Decides.{nat_tests}
@@ -15,6 +15,7 @@ use Rattle.isp_sql.specs.Meaning.{narrow}
 use Rattle.isp_sql.specs.Reading.{script_of}
 use Rattle.isp_sql.proofs.NarrowLaws.{narrow_is_plain}
 use Rattle.isp_sql.proofs.SessionLaws.{script_is_alone}
+use Rattle.isp_run.specs.Causes.{Takes}
 use Rattle.isp_run.specs.Ran.{IsPlain, Ran, RanOf}
 
 -- nothing more is told
@@ -96,3 +97,15 @@ pub script_read_from : (left new : Option (List ℕ)) (bytes : List ℕ) (script
 script_read_from left new bytes script read is end =
     let P : Option Script → Type 0 = λ s. IfSome left (λ all. s ≡ script_of all) in
     subst P (sym read) (script_from left new bytes is end)
+
+ahead_twice : (xs ys : List ℕ) (o : Option (List ℕ)) → told_ahead xs (told_ahead ys o) ≡ told_ahead (xs ++ ys) o
+ahead_twice xs ys None = refl
+ahead_twice xs ys (Some rest) = ap (λ b. Some b) (sym (append_assoc xs ys rest))
+
+-- these bytes, and then some more
+pub takes_more : (most : ℕ) (bytes : List ℕ) (before mid now : Option (List ℕ)) → before ≡ told_ahead bytes mid → length bytes ≤ most →
+    Takes (most - length bytes) mid now → Takes most before now
+takes_more most bytes before mid now first small takes =
+    let count : length takes.taken ≤ most - length bytes = takes.few in
+    let sum : length (bytes ++ takes.taken) ≡ length bytes + length takes.taken = length-append bytes takes.taken in
+    record { taken = bytes ++ takes.taken; told = first ∙ (ap (told_ahead bytes) takes.told ∙ ahead_twice bytes takes.taken now); few = omega arith }

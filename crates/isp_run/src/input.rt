@@ -1,8 +1,8 @@
 //! The script's bytes.
 
-ghost use Rattle.std.specs.Prelude.{◌≡◌, ◌<◌, ◌≤◌, ◌++◌, [], ℕ, true, false, length, IfOk, IfSome, MatchBool, Some, vec_len};
+ghost use Rattle.std.specs.Prelude.{◌-◌, ◌≡◌, ◌<◌, ◌≤◌, ◌++◌, [], ℕ, true, false, length, IfOk, IfSome, MatchBool, Some, vec_len};
 ghost use Rattle.isp_disk.specs.Outside.{Gives, told_ahead};
-ghost use Rattle.isp_run.specs.Causes.{HasStops};
+ghost use Rattle.isp_run.specs.Causes.{HasStops, Takes};
 
 use crate::stop::Stop;
 use isp_disk::Source;
@@ -19,6 +19,7 @@ pub fn read_bytes<S: Source>(alloc: Global, source: &mut S) -> Result<Vec<u8>, S
     ensures bytes { IfOk result (λ bytes. S.left source.old ≡ told_ahead bytes.items (S.left source.new)) }
     ensures end { IfOk result (λ bytes. length bytes.items < 16777217 → IfSome (S.left source.new) (λ rest. rest ≡ [])) }
     ensures most { IfOk result (λ bytes. length bytes.items ≤ 16777217) }
+    ensures taken { Takes 16777217 (S.left source.old) (S.left source.new) }
     ensures cause { HasStops (S.faults source.old) (S.faults source.new) result }
 {
     let mut bytes = Vec::new(alloc);
@@ -41,6 +42,7 @@ fn read_piece<S: Source>(
     ensures bytes { IfOk result (λ _. told_ahead bytes.old.items (S.left source.old) ≡ told_ahead bytes.new.items (S.left source.new)) }
     ensures end { IfOk result (λ is_end. MatchBool is_end (IfSome (S.left source.new) (λ rest. rest ≡ [])) (length bytes.old.items < length bytes.new.items)) }
     ensures most { IfOk result (λ _. length bytes.new.items ≤ 16777217) }
+    ensures taken { Takes (16777217 - length bytes.old.items) (S.left source.old) (S.left source.new) }
     ensures cause { HasStops (S.faults source.old) (S.faults source.new) result }
 {
     let room = (MOST_BYTES - bytes.len()).min(PIECE_BYTES);
@@ -52,6 +54,7 @@ fn read_piece<S: Source>(
 fn next<S: Source>(source: &mut S, piece: &mut [u8]) -> Result<usize, Stop>
     requires { 0 < length piece.old }
     ensures given { IfOk result (λ count. Gives (S.left source.old) count piece.new (S.left source.new)) }
+    ensures taken { Takes (length piece.old) (S.left source.old) (S.left source.new) }
     ensures cause { HasStops (S.faults source.old) (S.faults source.new) result }
 {
     match source.next(piece) {

@@ -4,7 +4,7 @@
 ghost use Rattle.std.specs.Prelude.{◌≡◌, ◌↔◌, ℕ, false, true, List, [], None, Some, IfSome, IsSome, map, string_bytes};
 ghost use Rattle.isp_disk.specs.Outside.{Rose};
 ghost use Rattle.isp_sql.specs.Reading.{script_of};
-ghost use Rattle.isp_run.specs.Causes.{KeepsDisk};
+ghost use Rattle.isp_run.specs.Causes.{KeepsDisk, Takes};
 ghost use Rattle.isp_run.specs.Ran.{IsDue, IsQuiet, IsRead, RanOf};
 ghost use Rattle.isp_run.specs.Words.{is_run};
 
@@ -17,7 +17,7 @@ mod stop;
 mod words;
 
 use isp_disk::{Source, World};
-pub use laws::law_first_row;
+pub use laws::{law_first_row, law_read_is_script, law_script_is_read};
 use play::play;
 use read::read_script;
 pub use status::Status;
@@ -42,6 +42,8 @@ pub fn run<S: Source, W: World>(
     // The headline: what was printed is the lines of answers to the script, and these are serial.
     ensures serial { result.0 ≡ Status.Done → IfSome (S.left script.old) (λ bytes. IfSome (W.printed world) (λ before. RanOf (script_of bytes) before (W.printed result.1))) }
     ensures end { result.0 ≡ Status.Done → IfSome (S.left script.new) (λ rest. rest ≡ []) }
+
+    ensures taken { Takes 16777217 (S.left script.old) (S.left script.new) }
 
     // Each other status has its cause.
     ensures bad { (line : ℕ) → result.0 ≡ Status.BadScript line → (line ≡ 0) × IfSome (S.left script.old) (λ bytes. script_of bytes ≡ None) }

@@ -2,7 +2,7 @@
 
 ghost use Rattle.std.specs.Prelude.{◌≡◌, [], IfOk, IfSome, IsSome};
 ghost use Rattle.isp_sql.specs.Reading.{script_of};
-ghost use Rattle.isp_run.specs.Causes.{HasStops};
+ghost use Rattle.isp_run.specs.Causes.{HasStops, Takes};
 
 use crate::input::read_bytes;
 use crate::stop::Stop;
@@ -15,6 +15,7 @@ use std::alloc::Global;
 pub fn read_script<S: Source>(alloc: Global, source: &mut S) -> Result<Option<Script>, Stop>
     ensures script { IfOk result (λ script. IfSome (S.left source.old) (λ bytes. script ≡ script_of bytes)) }
     ensures end { IfOk result (λ script. IsSome script → IfSome (S.left source.new) (λ rest. rest ≡ [])) }
+    ensures taken { Takes 16777217 (S.left source.old) (S.left source.new) }
     ensures cause { HasStops (S.faults source.old) (S.faults source.new) result }
 {
     let bytes = read_bytes(alloc, source)?;

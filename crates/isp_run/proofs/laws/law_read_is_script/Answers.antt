@@ -1,0 +1,5 @@
+use Rattle.isp_run.proofs.GrammarLaws.{hears}
+use Rattle.isp_run.proofs.laws.law_read_is_script.Goals as goal
+
+pub returns : goal.returns
+returns c = hears
