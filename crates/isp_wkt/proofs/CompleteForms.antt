@@ -152,7 +152,7 @@ word_itself kind.MultiLineString left = refl
 word_itself kind.MultiPolygon left = refl
 word_itself kind.Collection left = refl
 
-word_again : (k : Kind) (front left : List ℕ) → map upper front ≡ word k → word_in kinds 0 (front ++ left) ≡ Ok (k, left)
+pub word_again : (k : Kind) (front left : List ℕ) → map upper front ≡ word k → word_in kinds 0 (front ++ left) ≡ Ok (k, left)
 word_again k front left e =
     let same : (w : List ℕ) → common w (word k ++ left) ≡ common w (front ++ left) = λ w. ap (λ (u : List ℕ). common w (u ++ left)) (sym e) ∙ common-upper w front left in
     let len : length front ≡ length (word k) = sym (length-map front upper) ∙ ap length e in
@@ -234,7 +234,7 @@ skip_twice (b ∷ bs) = at (skip_twice bs) (is_blank b) refl
     at r false h = if_false (is_blank b) (skipped bs) (b ∷ bs) h
 
 -- a list, a line and a point in parentheses skip the blanks before them
-list_skips : {X : Type 0} (nothing : WktCause) (item : List ℕ → Outcome X) (bs : List ℕ) → list_at nothing item bs ≡ list_at nothing item (skipped bs)
+pub list_skips : {X : Type 0} (nothing : WktCause) (item : List ℕ → Outcome X) (bs : List ℕ) → list_at nothing item bs ≡ list_at nothing item (skipped bs)
 unfolding list_at
 list_skips nothing item bs = ap (λ (u : List ℕ). paren_at nothing u >>= λ opened. items_at item (length opened.1) opened.1) (sym (skip_twice bs))
 

@@ -1,8 +1,11 @@
 pub mod Complete
 pub mod CompleteForms
+pub mod Local
+pub mod LocalForms
 pub mod PrintedMeans
 pub mod Rules
 pub mod Sequences
 pub mod Sound
 pub mod SoundForms
+pub mod Stops
 pub mod Texts

@@ -1,6 +1,6 @@
 //! What holds of all texts.
 
-ghost use Rattle.isp_wkt.specs.Laws.{OneMeaning, PrintedTextMeans};
+ghost use Rattle.isp_wkt.specs.Laws.{FaultsStop, OneMeaning, PrintedTextMeans};
 
 /// A text means one geometry at most.
 pub fn law_one_meaning()
@@ -11,4 +11,9 @@ pub fn law_one_meaning()
 /// has at most 65,536 bytes.
 pub fn law_printed_text_means()
     ensures { PrintedTextMeans }
+{}
+
+/// No text of the grammar begins with the bytes before a fault and the byte at it.
+pub fn law_faults_stop()
+    ensures { FaultsStop }
 {}

@@ -12,6 +12,6 @@ mod reader;
 mod tests;
 
 pub use cause::{WktCause, WktError};
-pub use laws::{law_one_meaning, law_printed_text_means};
+pub use laws::{law_faults_stop, law_one_meaning, law_printed_text_means};
 pub use printer::print;
 pub use reader::read;

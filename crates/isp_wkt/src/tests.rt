@@ -139,6 +139,7 @@ fn texts_are_read_and_printed(rt: HostRuntime) -> Result<(), Fail> {
         let again = print(alloc, &geometry)?;
         assert!(rt; again.as_slice() == printed, "{text:?}");
     }
+    law_faults_stop();
     law_one_meaning();
     law_printed_text_means();
     Ok(())
