@@ -9,6 +9,7 @@ times as long. Build the program first: ./isp builds it.
 import os
 import subprocess
 import sys
+import tempfile
 import time
 
 TOP = os.path.dirname(os.path.dirname(os.path.abspath(__file__)))
@@ -25,34 +26,41 @@ def search(size):
 
 
 def inserts_and_a_search(rows):
-    return "setup\n" + CREATE + "session 1\n" + "".join(map(insert, range(1, rows + 1))) + search(9) + "schedule\nend\n"
+    yield "setup\n" + CREATE + "session 1\n"
+    yield from map(insert, range(1, rows + 1))
+    yield search(9) + "schedule\nend\n"
 
 
 def fifty_searches(rows):
-    return "setup\n" + CREATE + "".join(map(insert, range(1, rows + 1))) + "session 1\n" + search(9) * 50 + "schedule\nend\n"
+    yield "setup\n" + CREATE
+    yield from map(insert, range(1, rows + 1))
+    yield "session 1\n" + search(9) * 50 + "schedule\nend\n"
 
 
-def measure(script, repeats):
+def measure(lines, repeats):
+    """The least seconds and the peak memory in KiB. Lines go to a file one by one: what a child is said to have used
+    at its peak is never less than what this process had when it started it."""
     best, peak = None, 0
-    for _ in range(repeats):
-        begin = time.perf_counter()
-        done = subprocess.Popen([PROGRAM, "f", "run"], stdin=subprocess.PIPE, stdout=subprocess.DEVNULL)
-        done.stdin.write(script)
-        done.stdin.close()
-        _, status, usage = os.wait4(done.pid, 0)
-        seconds = time.perf_counter() - begin
-        if status != 0:
-            sys.exit(f"the program ended with status {status}")
-        best = seconds if best is None else min(best, seconds)
-        peak = max(peak, usage.ru_maxrss)
+    with tempfile.TemporaryFile("w+") as script:
+        script.writelines(lines)
+        for _ in range(repeats):
+            script.seek(0)
+            begin = time.perf_counter()
+            done = subprocess.Popen([PROGRAM, "f", "run"], stdin=script, stdout=subprocess.DEVNULL)
+            _, status, usage = os.wait4(done.pid, 0)
+            seconds = time.perf_counter() - begin
+            if status != 0:
+                sys.exit(f"the program ended with status {status}")
+            best = seconds if best is None else min(best, seconds)
+            peak = max(peak, usage.ru_maxrss)
     return best, peak
 
 
-def table(title, script_of, sizes, repeats):
+def table(title, lines_of, sizes, repeats):
     print(title)
     before = None
     for size in sizes:
-        seconds, peak = measure(script_of(size).encode(), repeats)
+        seconds, peak = measure(lines_of(size), repeats)
         ratio = "" if before is None else f"  x{seconds / before:.2f}"
         print(f"  {size:>7}  {seconds:8.3f} s  {peak / 1024:8.1f} MiB{ratio}")
         before = seconds
