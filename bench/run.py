@@ -1,7 +1,7 @@
 #!/usr/bin/env python3
 """Times the built program on growing scripts: many one-row INSERTs and one search, and 50 searches of growing tables.
 
-usage: bench/run.py [REPEATS]      (default: 3; the least time counts)
+usage: bench/run.py [ROUNDS]      (default: 25; the least of each size counts)
 
 Prints seconds, peak memory and, from size to size, the ratio of the seconds. A doubled size is to take at most 2.5
 times as long. Build the program first: ./isp builds it.
@@ -37,30 +37,34 @@ def fifty_searches(rows):
     yield "session 1\n" + search(9) * 50 + "schedule\nend\n"
 
 
-def measure(lines, repeats):
-    """The least seconds and the peak memory in KiB. Lines go to a file one by one: what a child is said to have used
-    at its peak is never less than what this process had when it started it."""
-    best, peak = None, 0
-    with tempfile.TemporaryFile("w+") as script:
-        script.writelines(lines)
-        for _ in range(repeats):
-            script.seek(0)
-            begin = time.perf_counter()
-            done = subprocess.Popen([PROGRAM, "f", "run"], stdin=script, stdout=subprocess.DEVNULL)
-            _, status, usage = os.wait4(done.pid, 0)
-            seconds = time.perf_counter() - begin
-            if status != 0:
-                sys.exit(f"the program ended with status {status}")
-            best = seconds if best is None else min(best, seconds)
-            peak = max(peak, usage.ru_maxrss)
-    return best, peak
+def script_file(lines):
+    """A file of the lines, written one by one: what a child is said to have used at its peak is never less than what
+    this process had when it started it, so no script is held here."""
+    script = tempfile.TemporaryFile("w+")
+    script.writelines(lines)
+    return script
 
 
-def table(title, lines_of, sizes, repeats):
+def measure(script):
+    """The seconds and the peak memory in KiB of one run."""
+    script.seek(0)
+    begin = time.perf_counter()
+    done = subprocess.Popen([PROGRAM, "f", "run"], stdin=script, stdout=subprocess.DEVNULL)
+    _, status, usage = os.wait4(done.pid, 0)
+    seconds = time.perf_counter() - begin
+    if status != 0:
+        sys.exit(f"the program ended with status {status}")
+    return seconds, usage.ru_maxrss
+
+
+def table(title, lines_of, sizes, rounds):
+    """The sizes are run in turn, round by round, so that a slow moment of the machine does not fall on one of them."""
     print(title)
+    scripts = [script_file(lines_of(size)) for size in sizes]
+    runs = [[measure(script) for script in scripts] for _ in range(rounds)]
     before = None
-    for size in sizes:
-        seconds, peak = measure(lines_of(size), repeats)
+    for size, measured in zip(sizes, zip(*runs)):
+        seconds, peak = map(min, zip(*measured))
         ratio = "" if before is None else f"  x{seconds / before:.2f}"
         print(f"  {size:>7}  {seconds:8.3f} s  {peak / 1024:8.1f} MiB{ratio}")
         before = seconds
@@ -69,9 +73,9 @@ def table(title, lines_of, sizes, repeats):
 def main():
     if not os.path.exists(PROGRAM):
         sys.exit("build the program first: ./isp")
-    repeats = int(sys.argv[1]) if len(sys.argv) > 1 else 3
-    table("one-row INSERTs, and one search", inserts_and_a_search, (20_000, 40_000, 80_000, 160_000), repeats)
-    table("50 searches of a table of rows", fifty_searches, (5_000, 10_000, 20_000, 40_000), repeats)
+    rounds = int(sys.argv[1]) if len(sys.argv) > 1 else 25
+    table("one-row INSERTs, and one search", inserts_and_a_search, (20_000, 40_000, 80_000, 160_000), rounds)
+    table("50 searches of a table of rows", fifty_searches, (5_000, 10_000, 20_000, 40_000), rounds)
 
 
 main()
