@@ -1,6 +1,6 @@
 //! Pages of a file, and what names them.
 #![tactic(auto)]
 
-/// The number of a page, counted from the start of the file.
-#[derive(Clone, Copy, Debug, PartialEq, Eq)]
-pub struct PageNo(pub u32);
+mod page;
+
+pub use page::{PAGE_BYTES, Page, PageNo};
