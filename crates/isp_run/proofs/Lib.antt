@@ -1,3 +1,5 @@
 pub mod FirstRowLaws
 pub mod GrammarLaws
+mod HistoryLaws
 pub mod RunLaws
+pub mod SqlLaws

@@ -10,13 +10,13 @@ use Rattle.isp_plain.specs.declared.script.Script.{Script}
 use Rattle.isp_plain.specs.Alone.{AreSmall, run_answers, run_after}
 use Rattle.isp_plain.specs.Answers.{Answer}
 use Rattle.isp_plain.specs.Spelling.{line_of}
-use Rattle.isp_plain.proofs.AloneSerial.{IsPlainAnswer, all_plain, alone_is_serial}
-use Rattle.isp_sql.specs.Meaning.{narrow}
+use Rattle.isp_plain.proofs.AloneSerial.{all_plain, alone_is_serial}
 use Rattle.isp_sql.specs.Reading.{script_of}
-use Rattle.isp_sql.proofs.NarrowLaws.{narrow_is_plain}
 use Rattle.isp_sql.proofs.SessionLaws.{script_is_alone}
 use Rattle.isp_run.specs.Causes.{Takes}
-use Rattle.isp_run.specs.Ran.{IsPlain, Ran, RanOf}
+use Rattle.isp_run.specs.Sql.{sql}
+use Rattle.isp_run.proofs.SqlLaws.{sql_is_faithful}
+use Rattle.isp_run.specs.Ran.{Ran, RanOf}
 
 -- nothing more is told
 pub told_nothing : (before : Option (List ℕ)) → told_behind before [] ≡ before
@@ -32,23 +32,19 @@ pub told_lines : (before : Option (List ℕ)) (xs ys : List Answer) →
     told_behind (told_behind before (flat_map line_of xs)) (flat_map line_of ys) ≡ told_behind before (flat_map line_of (xs ++ ys))
 told_lines before xs ys = told_twice before (flat_map line_of xs) (flat_map line_of ys) ∙ ap (told_behind before) (sym (flat_map-append line_of xs ys))
 
-plain_answers : (answers : List Answer) → All IsPlainAnswer answers → All IsPlain answers
-plain_answers answers all = λ k d inside. let one = all k d inside in
-    record { shown = one.shown; turn = one.turn; not_full = one.not_full; not_deadlock = one.not_deadlock }
-
 ran_script : (script : Script) (bytes before : List ℕ) (now : Option (List ℕ)) → script_of bytes ≡ Some script →
-    now ≡ told_behind (Some before) (flat_map line_of (run_answers narrow script)) → (length script.setup + 1 < 2 ^ 64) × AreSmall script.sessions → Ran script before now
+    now ≡ told_behind (Some before) (flat_map line_of (run_answers sql script)) → (length script.setup + 1 < 2 ^ 64) × AreSmall script.sessions → Ran script before now
 ran_script script bytes before now is told small = record {
-  answers = run_answers narrow script;
+  answers = run_answers sql script;
   told = told;
-  plain = plain_answers (run_answers narrow script) (all_plain narrow script narrow_is_plain small.0 small.1);
-  after = run_after narrow script;
-  serial = alone_is_serial narrow script narrow_is_plain (script_is_alone bytes script is);
+  plain = all_plain sql script sql_is_faithful small.0 small.1;
+  after = run_after sql script;
+  serial = alone_is_serial sql script sql_is_faithful (script_is_alone bytes script is);
 }
 
 -- the headline, from what the parts of a run say
 pub ran : (left printed now : Option (List ℕ)) (script : Script) → IfSome left (λ bytes. Some script ≡ script_of bytes) →
-    now ≡ told_behind printed (flat_map line_of (run_answers narrow script)) → (length script.setup + 1 < 2 ^ 64) × AreSmall script.sessions →
+    now ≡ told_behind printed (flat_map line_of (run_answers sql script)) → (length script.setup + 1 < 2 ^ 64) × AreSmall script.sessions →
     IfSome left (λ bytes. IfSome printed (λ before. RanOf (script_of bytes) before now))
 ran None printed now script is told small = tt
 ran (Some bytes) None now script is told small = tt

@@ -8,10 +8,12 @@ ghost use Rattle.isp_run.specs.Causes.{KeepsDisk, Takes};
 ghost use Rattle.isp_run.specs.Ran.{IsDue, IsQuiet, IsRead, RanOf};
 ghost use Rattle.isp_run.specs.Words.{is_run};
 
+mod history;
 mod input;
 mod laws;
 mod play;
 mod read;
+mod statement;
 mod status;
 mod stop;
 mod words;

@@ -1,26 +1,34 @@
--- In the narrow language each statement is a transaction of its own, and no answer is a full file's or a deadlock's.
-use Rattle.std.proofs.Common.{ℕ, false, List, refl, Option, Some, None}
+-- In the narrow language each statement is a transaction of its own, and nothing is refused as a full file or a deadlock.
+use Rattle.std.proofs.Common.{◌≡◌, ◌==◌, ℕ, false, List, refl, subst, Option, Some, None}
 use Rattle.std.specs.Option.{option_map, option_and_then}
 use Rattle.isp_plain.specs.declared.script.Place.{Place}
 use Rattle.isp_plain.specs.declared.script.Place.TheVariants as place
 use Rattle.isp_plain.specs.declared.statement.Statement.{Statement}
+use Rattle.isp_plain.specs.declared.statement.Statement.TheVariants.{Create, Insert, Select, Begin, Commit, Rollback, Refused}
 use Rattle.isp_plain.specs.declared.value.Schema.{Schema}
 use Rattle.isp_plain.specs.Does.{definition_at}
-use Rattle.isp_plain.specs.Serial.{done}
+use Rattle.isp_plain.specs.Alone.{IsFaithful, MayMean}
 use Rattle.isp_plain.specs.Tables.{Table}
-use Rattle.isp_plain.proofs.AloneLaws.{IsPlainLanguage}
-use Rattle.isp_plain.proofs.DoesLaws.{RefusesOwn, does_own}
-use Rattle.isp_plain.proofs.TextLaws.{own_not_given}
+use Rattle.isp_plain.specs.Transactions.{stays}
 use Rattle.isp_sql.specs.Meaning.{narrow, meaning, built, statement_of, create_of, create_names, table_of_points, insert_of, insert_front, rows_in, select_of, select_front, line_value, search_of, or_else, column_name}
 use Rattle.isp_sql.specs.Tokens.{tokens_of}
 use Rattle.isp_sql.specs.declared.token.Token.{Token}
 
--- a statement that is there refuses nothing as a full file or a deadlock
+-- no statement on transactions, and no refusal as a full file or a deadlock
+abbrev pub IsNarrow : Statement → Type 0
+IsNarrow (Refused number at) = ((number == 1114) ≡ false) × ((number == 1213) ≡ false)
+IsNarrow (Create name schema) = Unit {0}
+IsNarrow (Insert name rows) = Unit {0}
+IsNarrow (Select name columns condition) = Unit {0}
+IsNarrow Begin = ⊥
+IsNarrow Commit = ⊥
+IsNarrow Rollback = ⊥
+
 abbrev pub Own : Option Statement → Type 0
 Own None = Unit {0}
-Own (Some statement) = RefusesOwn statement
+Own (Some statement) = IsNarrow statement
 
-mapped : {A : Type 0} (f : A → Statement) (o : Option A) → ((a : A) → RefusesOwn (f a)) → Own (option_map f o)
+mapped : {A : Type 0} (f : A → Statement) (o : Option A) → ((a : A) → IsNarrow (f a)) → Own (option_map f o)
 mapped f None own = tt
 mapped f (Some a) own = own a
 
@@ -55,19 +63,27 @@ statement_own (Some table) place.Setup tokens = insert_own table.0 tokens
 statement_own (Some table) place.Session tokens = session_own table.0 table.1 tokens
 statement_own (Some table) place.InTransaction tokens = session_own table.0 table.1 tokens
 
-built_own : (o : Option Statement) → Own o → RefusesOwn (built o)
+built_own : (o : Option Statement) → Own o → IsNarrow (built o)
 built_own None own = (refl, refl)
 built_own (Some statement) own = own
 
-meaning_own : (tables : List Table) (at : Place) (text : List ℕ) → RefusesOwn (meaning tables at text)
+meaning_own : (tables : List Table) (at : Place) (text : List ℕ) → IsNarrow (meaning tables at text)
 unfolding meaning
 meaning_own tables at text =
     built_own _ (chained (statement_of (definition_at tables 0) at) (tokens_of text) (λ tokens. statement_own (definition_at tables 0) at tokens))
 
-pub narrow_is_plain : IsPlainLanguage narrow
+may_mean : (statement : Statement) → IsNarrow statement → MayMean stays statement
+may_mean (Create name schema) narrow = refl
+may_mean (Insert name rows) narrow = refl
+may_mean (Select name columns condition) narrow = refl
+may_mean Begin narrow = absurd narrow
+may_mean Commit narrow = absurd narrow
+may_mean Rollback narrow = absurd narrow
+may_mean (Refused number at) own = own
+
+pub narrow_is_faithful : IsFaithful narrow
 unfolding narrow
-narrow_is_plain = record {
-  effects = λ text. refl;
-  not_given = λ tables session number text.
-      own_not_given session number (done narrow tables session false text).reply (does_own tables _ (meaning_own tables _ text));
+narrow_is_faithful = record {
+  meant = λ tables at text. may_mean (meaning tables at text) (meaning_own tables at text);
+  setup = λ tables text begins. subst IsNarrow begins (meaning_own tables place.Setup text);
 }
