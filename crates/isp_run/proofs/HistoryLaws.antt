@@ -1,5 +1,5 @@
 -- One change further.
-use Rattle.std.proofs.Common.{◌≡◌, ◌∙◌, ◌+◌, ◌≤◌, ℕ, Bool, ap, sym, refl, List, [], ◌∷◌, ◌++◌, length, length-append, take, arith, Option, Some, None, if◌then◌else◌}
+use Rattle.std.proofs.Common.{◌≡◌, ◌∙◌, ◌+◌, ◌≤◌, ℕ, ap, sym, refl, List, [], ◌∷◌, ◌++◌, length, length-append, take, arith, Option, Some, None, if◌then◌else◌}
 use Rattle.std.specs.Prelude.{IfSome, is_some}
 use Rattle.std.proofs.lemmas.List.{take-append-le}
 use Rattle.isp_plain.specs.declared.statement.Statement.{Statement}

@@ -1,6 +1,6 @@
 -- What a run that was done has printed: the lines of answers, and nothing else. They fit the script, and their
 -- transactions, done again one by one on plain tables, from none, give these answers.
-use Rattle.std.specs.Prelude.{◌≡◌, ℕ, List, [], ◌++◌, All, Option, Some, None}
+use Rattle.std.specs.Prelude.{◌≡◌, ℕ, List, [], ◌++◌, All, Option, Some}
 use Rattle.std.specs.List.{flat_map}
 use Rattle.isp_plain.specs.declared.script.Script.{Script}
 use Rattle.isp_plain.specs.Alone.{IsPlain}
@@ -8,6 +8,7 @@ use Rattle.isp_plain.specs.Answers.{Answer}
 use Rattle.isp_plain.specs.Serial.{Serial}
 use Rattle.isp_plain.specs.Spelling.{line_of}
 use Rattle.isp_plain.specs.Tables.{Table}
+use Rattle.isp_script.specs.Grammar.{IsScript}
 use Rattle.isp_run.specs.Sql.{sql}
 use Rattle.isp_run.specs.declared.status.Status.{Status}
 use Rattle.isp_run.specs.declared.status.Status.TheVariants.{Done, Usage, BadScript, ReadFault, PrintFault, OutOfMemory}
@@ -20,10 +21,9 @@ pub record Ran (script : Script) (before : List ℕ) (now : Option (List ℕ)) :
   pub after : List Table
   pub serial : Serial sql script [] answers after
 
--- the same of the script that bytes are, where they are one
-abbrev pub RanOf : Option Script → List ℕ → Option (List ℕ) → Type 0
-RanOf (Some script) before now = Ran script before now
-RanOf None before now = ⊥
+-- the same of the script that the bytes are
+abbrev pub RanOf : List ℕ → List ℕ → Option (List ℕ) → Type 0
+RanOf bytes before now = (script : Script) × IsScript bytes script × Ran script before now
 
 -- the script was read and is in the grammar
 abbrev pub IsRead : Status → Type 0
