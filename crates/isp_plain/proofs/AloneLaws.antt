@@ -330,8 +330,7 @@ further language script session number said state pending effect tables next eff
     ap (λ b. ends b effect a) stands.inside ∙ (third (is_end a) (is_deadlock a) _ own.0 own.1 ∙ over) in
     let kept : keeps (is_inside stands.answers) effect a ≡ is_kept state.inside effect =
     ap (λ b. keeps b effect a) stands.inside ∙ second (is_end a) (is_deadlock a) _ own.0 own.1 in
-    let reached = reaches_more language script false state.committed stands.answers state.present state.inside a tables stands.reached agrees in
-    (
+    let reached = reaches_more language script false state.committed stands.answers state.present state.inside a tables stands.reached agrees in (
       only session [],
       ends_from language script state.committed pending a next.committed (only session []) stands.answers effect
           (own_answers session stands.answers pending stands.its_own) effect_is
@@ -350,8 +349,7 @@ further language script session number said state pending effect tables next eff
     ap (λ b. ends b effect a) stands.inside ∙ (third (is_end a) (is_deadlock a) _ own.0 own.1 ∙ goes_on) in
     let reached = reaches_more language script false state.committed stands.answers state.present state.inside a tables stands.reached agrees in
     let flag : (state.inside || (is_begin (effect_of language (text_at script session number)) && is_ok a)) ≡ true =
-    ap (λ e. state.inside || (is_begin e && is_ok a)) effect_is ∙ begun in
-    (
+    ap (λ e. state.inside || (is_begin e && is_ok a)) effect_is ∙ begun in (
       only session (stands.answers ++ a ∷ []),
       ends_from language script state.committed pending a next.committed (only session (stands.answers ++ a ∷ [])) stands.answers effect
           (own_answers session stands.answers pending stands.its_own) effect_is
@@ -397,8 +395,7 @@ over language script session number state pending stands =
     let effect = effect_of language (text_at script session number) in
     let is = end_is session number in
     let agrees : Agrees language script state.inside state.present a state.present = match_true (is_given a) _ _ is.1 refl in
-    let reached = reaches_more language script false state.committed stands.answers state.present state.inside a state.present stands.reached agrees in
-    (
+    let reached = reaches_more language script false state.committed stands.answers state.present state.inside a state.present stands.reached agrees in (
       only session [],
       ends_from language script state.committed pending a state.committed (only session []) stands.answers effect
           (own_answers session stands.answers pending stands.its_own) refl

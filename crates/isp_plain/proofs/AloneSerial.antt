@@ -70,8 +70,7 @@ sessions_end language script is_faithful (session ∷ []) state pending of is_al
     let end = over language script session.number (length session.texts + 1) mid first.0 first.2 in
     let all : EndsAll language script state.committed pending (said ++ last ∷ []) mid.committed end.0 =
     joined language script state.committed mid.committed mid.committed pending first.0 end.0 said (last ∷ []) first.1
-    (mid.committed, end.0, end.1, (refl, refl)) in
-    (
+    (mid.committed, end.0, end.1, (refl, refl)) in (
       end.0,
       subst (λ answers. EndsAll language script state.committed pending answers mid.committed end.0) (sym (append-nil (said ++ last ∷ []))) all,
       no_answer language script mid.committed session.number end.0 (settles language script session.number (rolled_back mid) end.0 end.2 refl),

@@ -1,5 +1,5 @@
 -- What was printed, piece by piece, and what a run that was done has printed.
-use Rattle.std.proofs.Common.{◌≡◌, ◌∙◌, ℕ, zero, suc, ◌<◌, ◌≤◌, ◌+◌, ◌-◌, ◌^◌, ap, sym, subst, refl, List, [], ◌∷◌, ◌++◌, length, take, length-append, append_assoc, append-nil, arith, Option, Some, None}
+use Rattle.std.proofs.Common.{◌≡◌, ◌∙◌, ℕ, ◌<◌, ◌≤◌, ◌+◌, ◌-◌, ◌^◌, ap, sym, subst, refl, List, [], ◌++◌, length, length-append, append_assoc, append-nil, arith, Option, Some, None}
 use Rattle.std.specs.Prelude.{IfSome}
 use Rattle.std.specs.List.{flat_map}
 use Rattle.std.proofs.lemmas.List.Concat.{flat_map-append}
@@ -11,15 +11,13 @@ use Rattle.isp_plain.specs.Spelling.{line_of}
 use Rattle.isp_plain.proofs.AloneSerial.{all_plain, alone_is_serial}
 use Rattle.isp_script.specs.BadLines.{IsBadLine}
 use Rattle.isp_script.specs.Grammar.{IsScript}
-use Rattle.isp_script.proofs.BadLaws.{bad_line_of_front, not_both, script_of_front}
+use Rattle.isp_script.proofs.BadLaws.{not_both}
 use Rattle.isp_script.proofs.LimitLaws.{script_is_alone}
 use Rattle.isp_run.specs.Causes.{Takes}
 use Rattle.isp_run.specs.Sql.{sql}
 use Rattle.isp_run.proofs.SqlLaws.{sql_is_faithful}
 use Rattle.isp_run.specs.Ran.{Ran, RanOf}
-use Rattle.isp_run.specs.Reading.{HasScript, IsFound, IsGood}
-use Rattle.isp_run.specs.declared.read.Found.{Found}
-use Rattle.isp_run.specs.declared.read.Found.TheVariants.{Script, Bad}
+use Rattle.isp_run.specs.Reading.{HasScript}
 
 -- nothing more is told
 pub told_nothing : (before : Option (List ℕ)) → told_behind before [] ≡ before
@@ -52,37 +50,6 @@ pub ran : (left printed now : Option (List ℕ)) (script : ScriptOf) → IfSome 
 ran None printed now script is told small = tt
 ran (Some bytes) None now script is told small = tt
 ran (Some bytes) (Some before) now script is told small = (script, is, ran_script script bytes before now is told small)
-
--- bytes of which no more than so many were read are the front of all
-front : (most : ℕ) (bytes rest : List ℕ) → length bytes ≤ most → (length bytes < most → rest ≡ []) → bytes ≡ take most (bytes ++ rest)
-front zero [] rest below end = refl
-front (suc most) [] rest below end = ap (take (suc most)) (sym (end (omega arith)))
-front zero (b ∷ bytes) rest below end = absurd (omega arith)
-front (suc most) (b ∷ bytes) rest below end = ap (λ xs. b ∷ xs) (front most bytes rest (omega arith) (λ short. end (omega arith)))
-
-found_in_front : (found : Found) (bytes : List ℕ) → IsFound (take 16777217 bytes) found → IsFound bytes found
-found_in_front (Script script) bytes is = script_of_front bytes script is
-found_in_front (Bad line) bytes is = bad_line_of_front bytes line is
-
--- what the bytes that were read are, all bytes are
-pub found_from : (left new : Option (List ℕ)) (bytes : List ℕ) (found : Found) → IsFound bytes found → left ≡ told_ahead bytes new → length bytes ≤ 16777217 →
-    (length bytes < 16777217 → IfSome new (λ rest. rest ≡ [])) → IfSome left (λ all. IsFound all found)
-found_from None new bytes found is told most end = tt
-found_from (Some all) None bytes found is told most end = cc
-found_from (Some all) (Some rest) bytes found is told most end =
-    let whole : bytes ++ rest ≡ all = cc in
-    let P : List ℕ → Type 0 = λ b. IsFound b found in
-    subst P whole (found_in_front found (bytes ++ rest) (subst P (front 16777217 bytes rest most end) is))
-
--- where they are a script, nothing is left
-pub read_to_end : (found : Found) (bytes : List ℕ) (X : Type 0) → IsFound bytes found → (length bytes < 16777217 → X) → IsGood found → X
-read_to_end (Script script) bytes X is end good = let most : length bytes ≤ 16777216 = is.most in end (omega arith)
-read_to_end (Bad line) bytes X is end good = absurd good
-
--- the same of a script alone
-pub good_from : (left : Option (List ℕ)) (script : ScriptOf) → IfSome left (λ bytes. IsScript bytes script) → IfSome left (λ bytes. HasScript bytes)
-good_from None script is = tt
-good_from (Some bytes) script is = (script, is)
 
 -- bytes that have a script have no bad line
 pub not_bad : (left : Option (List ℕ)) (bytes : List ℕ) (line : ℕ) → IfSome left (λ all. IsBadLine all line) → left ≡ Some bytes → HasScript bytes → ⊥

@@ -99,11 +99,20 @@ fn words(rt: HostRuntime) -> Result<(), Fail> {
 #[test]
 fn scripts(rt: HostRuntime) -> Result<(), Fail> {
     let alloc = rt.alloc();
-    let bad = Status::BadScript { line: 0 };
-    let rows: [(&[u8], Status); 4] = [
-        (b"", bad),
-        (b"setup\nsession 1\nschedule\n1\nend\n", bad),
-        (b"setup\nsession 17\nschedule\nend\n", bad),
+    let rows: [(&[u8], Status); 5] = [
+        (b"", Status::BadScript { line: 1 }),
+        (
+            b"setup\nsession 1\nschedule\n1\nend\n",
+            Status::BadScript { line: 4 },
+        ),
+        (
+            b"setup\nsession 1\nINSERT INTO p VALUES (1,'PO",
+            Status::BadScript { line: 3 },
+        ),
+        (
+            b"setup\n# a\nsession 1\nFLY;\n\nschedule\n",
+            Status::BadScript { line: 7 },
+        ),
         (
             b"setup\r\n# x;\r\n \t\r\nschedule\r\nend\r\n\n",
             Status::Done,
