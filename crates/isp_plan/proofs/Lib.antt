@@ -1,2 +1,3 @@
 mod EachLaws
 mod NumberLaws
+mod RowLaws

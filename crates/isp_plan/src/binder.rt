@@ -17,7 +17,7 @@ use crate::refusal::{Refusal, Stop, ensure, refused};
 use isp_mbr::{Bytes, Duplicate, Name, Predicate, Test};
 use isp_plain::{
     Assign, Atom, Column, Condition, Defined, Indices, Kind, Op, Place, Row, Rows, Schema, Sets,
-    Statement, Values, box_of,
+    Statement, Values, box_of, row_size,
 };
 use isp_sql::{
     Literal, Literals, Names, Parsed, ParsedAtom, ParsedColumn, ParsedSet,
@@ -226,7 +226,7 @@ fn are_counted(columns: &[Column], rows: &[Literals]) -> bool
 fn is_small(schema: &Schema, row: &Row) -> bool
     ensures { result ≡ is_small schema.now row.now }
 {
-    schema.columns.len() <= ROW && row.values.len() <= ROW
+    row_size(schema, row) <= ROW
 }
 
 fn are_small(schema: &Schema, rows: &[Row]) -> bool
