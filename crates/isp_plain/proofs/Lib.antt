@@ -1,8 +1,9 @@
 pub mod AloneSerial
 pub mod AloneFits
 pub mod AloneLaws
+pub mod DoesLaws
 pub mod EntriesBack
+pub mod LinedLaws
 pub mod SignedReads
 pub mod SpellingLaws
 pub mod TextLaws
-pub mod DoesLaws

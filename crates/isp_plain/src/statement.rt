@@ -1,8 +1,9 @@
 //! What is asked of tables, and what is answered.
 
 use crate::{Row, Schema, Value};
-use isp_mbr::{Name, Predicate};
+use isp_mbr::{Duplicate, Name, Predicate};
 use sqlite_items::Items;
+use std::alloc::{AllocError, Global};
 
 /// Rows, in the order in which they are written or shown.
 pub type Rows = Items<Row>;
@@ -92,4 +93,37 @@ pub enum Reply {
     Rows(Rows),
     Err { number: u32, at: i64 },
     End,
+}
+
+impl Duplicate for Atom {
+    fn copy(&self, alloc: Global) -> Result<Atom, AllocError> {
+        match self {
+            Atom::Cmp { column, op, v } => Ok(Atom::Cmp {
+                column: *column,
+                op: *op,
+                v: v.copy(alloc)?,
+            }),
+            Atom::Box { column, p } => Ok(Atom::Box {
+                column: *column,
+                p: *p,
+            }),
+        }
+    }
+}
+
+impl Duplicate for Condition {
+    fn copy(&self, alloc: Global) -> Result<Condition, AllocError> {
+        let atoms = self.atoms.copy(alloc)?;
+        Ok(Condition { atoms })
+    }
+}
+
+impl Duplicate for Assign {
+    fn copy(&self, alloc: Global) -> Result<Assign, AllocError> {
+        let v = self.v.copy(alloc)?;
+        Ok(Assign {
+            column: self.column,
+            v,
+        })
+    }
 }

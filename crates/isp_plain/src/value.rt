@@ -4,7 +4,7 @@ ghost use Rattle.std.specs.Prelude.{◌≡◌};
 ghost use Rattle.isp_plain.specs.Values.{box_of};
 
 use isp_geom::Geometry;
-use isp_mbr::{Bytes, Duplicate, Name};
+use isp_mbr::{Box4, Bytes, Duplicate, Name};
 use sqlite_items::Items;
 use std::alloc::{AllocError, Global};
 
@@ -70,10 +70,11 @@ impl Duplicate for Schema {
 }
 
 impl Duplicate for Value {
-    fn copy(&self, _alloc: Global) -> Result<Value, AllocError> {
+    fn copy(&self, alloc: Global) -> Result<Value, AllocError> {
         match self {
             Value::Int(number) => Ok(Value::Int(*number)),
-            Value::Geo(geometry) => Ok(Value::Geo(*geometry)),
+            Value::Text(text) => Ok(Value::Text(text.copy(alloc)?)),
+            Value::Geo(geometry) => Ok(Value::Geo(geometry.copy(alloc)?)),
         }
     }
 }
@@ -83,4 +84,11 @@ impl Duplicate for Row {
         let values = self.values.copy(alloc)?;
         Ok(Row { values })
     }
+}
+
+/// The least box round all points of a geometry: its minimum bounding rectangle (the MySQL 8.0 manual).
+pub fn box_of(geometry: &Geometry) -> Box4
+    ensures { result ≡ box_of geometry.now }
+{
+    isp_geom::box_of(geometry)
 }
