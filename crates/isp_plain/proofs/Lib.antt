@@ -3,6 +3,7 @@ pub mod AloneFits
 pub mod AloneLaws
 pub mod DoesLaws
 pub mod EntriesBack
+pub mod EntriesChanged
 pub mod LinedLaws
 pub mod SignedReads
 pub mod SpellingLaws

@@ -48,18 +48,16 @@ module _ {X : Type 0} (p : X → Bool) where
       let parts = and_parts (p y) (list_all p ys) all in and_from (p y) (list_all p (slice_set ys at x)) parts.0 (all_set ys at x parts.1 is)
 
   -- the member that is found passes
-  Passes : Option X → Type 0
+  abbrev Passes : Option X → Type 0
   Passes (Some x) = p x ≡ true
   Passes None = Unit {0}
 
   found_passes : (xs : List X) (at : ℕ) → list_all p xs ≡ true → Passes (slice_get xs at)
-  unfolding Passes
   found_passes [] at all = tt
   found_passes (x ∷ xs) zero all = (and_parts (p x) (list_all p xs) all).0
   found_passes (x ∷ xs) (suc at) all = found_passes xs at (and_parts (p x) (list_all p xs) all).1
 
   all_cons_option : (found : Option X) (xs : List X) → Passes found → list_all p xs ≡ true → list_all p (cons_option found xs) ≡ true
-  unfolding Passes
   all_cons_option None xs is all = all
   all_cons_option (Some x) xs is all = and_from (p x) (list_all p xs) is all
 
@@ -152,7 +150,6 @@ changed_lined tables change None keeps all = all
 changed_lined tables change (Some place) keeps all = at (slice_get tables place) (found_passes is_lined_table tables place all)
   where
     at : (found : Option Table) → Passes is_lined_table found → are_lined (changed_at tables place change found).tables ≡ true
-    unfolding Passes
     at None is = all
     at (Some table) is = all_set is_lined_table tables place (change table).table all (keeps table is)
 
@@ -191,7 +188,6 @@ select_shows tables None columns condition all = refl
 select_shows tables (Some place) columns condition all = at (slice_get tables place) (found_passes is_lined_table tables place all)
   where
     at : (found : Option Table) → Passes is_lined_table found → is_lined_reply (select_reply found columns condition) ≡ true
-    unfolding Passes
     at None is = refl
     at (Some table) is = selected_lined (values_of table.rows) columns condition is
 

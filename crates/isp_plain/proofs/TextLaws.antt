@@ -91,10 +91,11 @@ members_line : (before : ℕ) → (before == 10) ≡ false → (members : List (
     is_one_line (chained (λ member. member) before (map printed (map (λ e. e.0) members))) ≡ true
 members_line before is [] = refl
 members_line before is (member ∷ members) =
-    one_line-cons before _ is (one_line-append (printed member.0) _ member.1 (members_line 44 refl members))
+    let others = chained (λ member. member) 44 (map printed (map (λ e. e.0) members)) in
+    one_line-cons before (printed member.0 ++ others) is (one_line-append (printed member.0) others member.1 (members_line 44 refl members))
 
 -- one layer of a form, with the printed form of each member, where these are one line
-layer_line : (y : Form-F ((form : Form) × IsLine form)) → is_one_line (level (map-Form printed (map-Form (λ e. e.0) y))) ≡ true
+layer_line : (y : Form-F ((form : Form) × IsLine form)) → is_one_line (level (map-Form Form (List ℕ) printed (map-Form ((form : Form) × IsLine form) Form (λ e. e.0) y))) ≡ true
 layer_line (Form-F.Point x) = after_word kind.Point (marked x) (marked_line x)
 layer_line (Form-F.LineString ps) = after_word kind.LineString (line ps) (listed_line pair pair_line ps)
 layer_line (Form-F.Polygon rings) = after_word kind.Polygon (lines rings) (lines_line rings)
@@ -102,12 +103,13 @@ layer_line (Form-F.MultiPoint ps) = after_word kind.MultiPoint (listed marked ps
 layer_line (Form-F.MultiLineString ls) = after_word kind.MultiLineString (lines ls) (lines_line ls)
 layer_line (Form-F.MultiPolygon ps) = after_word kind.MultiPolygon (listed lines ps) (listed_line lines lines_line ps)
 layer_line (Form-F.Collection members) =
-    after_word kind.Collection _ (one_line-append _ (41 ∷ []) (members_line 40 refl members) refl)
+    let texts = chained (λ member. member) 40 (map printed (map (λ e. e.0) members)) in
+    after_word kind.Collection (texts ++ 41 ∷ []) (one_line-append texts (41 ∷ []) (members_line 40 refl members) refl)
 
 printed_line : (form : Form) → is_one_line (printed form) ≡ true
 unfolding printed
 printed_line = ind-Form IsLine (λ x y is.
-    let layer = subst (λ z. is_one_line (level (map-Form printed z)) ≡ true) is (layer_line y) in
+    let layer = subst (λ z. is_one_line (level (map-Form Form (List ℕ) printed z)) ≡ true) is (layer_line y) in
     ap is_one_line (fold-roll-Form (List ℕ) level x) ∙ layer)
 
 -- ---- rows
@@ -122,7 +124,7 @@ all_doubled_line (b ∷ text) is =
     one_line-append (doubled b) (flat_map doubled text) (doubled_line b (not-true (b == 10) parts.0)) (all_doubled_line text parts.1)
 
 quoted_line : (text : List ℕ) → is_one_line text ≡ true → is_one_line (quoted text) ≡ true
-quoted_line text is = one_line-cons 39 _ refl (one_line-append (flat_map doubled text) (39 ∷ []) (all_doubled_line text is) refl)
+quoted_line text is = one_line-cons 39 (flat_map doubled text ++ 39 ∷ []) refl (one_line-append (flat_map doubled text) (39 ∷ []) (all_doubled_line text is) refl)
 
 value_line : (value : Value) → is_lined_value value ≡ true → is_one_line (value_text value) ≡ true
 value_line (Int number) is = signed_line number
@@ -206,7 +208,7 @@ unfolding end_text full_text deadlock_text
 count_own session number n = refl
 
 -- the words differ from the text before they end, or go on behind its end
-differs : List ℕ → List ℕ → Bool
+abbrev differs : List ℕ → List ℕ → Bool
 differs [] text = false
 differs (b ∷ words) [] = true
 differs (b ∷ words) (c ∷ text) = if b == c then differs words text else true
@@ -221,15 +223,15 @@ differs_with_more [] text more is = cc
 differs_with_more (b ∷ words) [] more is = refl
 differs_with_more (b ∷ words) (c ∷ text) more is = differs_at (b == c) words text more (differs_with_more words text more) is
 
-differs_from_given : List ℕ → Bool
+abbrev differs_from_given : List ℕ → Bool
 differs_from_given words = differs words end_text && (differs words full_text && differs words deadlock_text)
 
 -- the words of a refusal differ from the texts that are given, unless it is one of these
-own_or_given : Refusal → Bool
+abbrev own_or_given : Refusal → Bool
 own_or_given refusal = if refusal.number == 1114 then true else if refusal.number == 1213 then true else differs_from_given refusal.words
 
 all_own_or_given : list_all own_or_given refusals ≡ true
-unfolding refusals full_text deadlock_text end_text differs differs_from_given own_or_given
+unfolding refusals full_text deadlock_text end_text
 all_own_or_given = refl
 
 or_none : (a b c : Bool) → a ≡ false → b ≡ false → c ≡ false → (a || b || c) ≡ false
@@ -251,7 +253,6 @@ same_number n m is = grind (arith, nat_tests)
 -- the refusal of a number that is neither a full file's nor a deadlock's
 refusal_own : (session number code : ℕ) (at : ℤ) (refusal : Refusal) → (code == 1114) ≡ false → (code == 1213) ≡ false → (refusal.number == code) ≡ true →
     own_or_given refusal ≡ true → is_taken session number (text_of refusal at) ≡ false
-unfolding own_or_given
 refusal_own session number code at refusal not_full not_deadlock same is =
     let full : (refusal.number == 1114) ≡ false = ap (λ n. n == 1114) (same_number refusal.number code same) ∙ not_full in
     let deadlock : (refusal.number == 1213) ≡ false = ap (λ n. n == 1213) (same_number refusal.number code same) ∙ not_deadlock in

@@ -1,6 +1,6 @@
 //! How many bytes a row takes.
 
-ghost use Rattle.std.specs.Prelude.{◌≡◌, ◌+◌, ◌*◌, min};
+ghost use Rattle.std.specs.Prelude.{◌≡◌, ◌+◌, ◌*◌, min, if◌then◌else◌};
 ghost use Rattle.std.specs.List.{sum_by};
 ghost use Rattle.isp_plain.specs.RowBytes.{indexed_columns, row_bytes, value_bytes};
 
@@ -36,11 +36,16 @@ fn numbers_size(columns: &[Column]) -> usize
 {
     let mut size = 0;
     for column in columns {
-        if column.indexed {
-            size = capped(size, 8);
-        }
+        size = capped(size, number_size(column));
     }
     size
+}
+
+// The bytes of the number of a column's entry, if it has an index.
+fn number_size(column: &Column) -> usize
+    ensures { result ≡ (if column.now.indexed then 8 else 0) }
+{
+    if column.indexed { 8 } else { 0 }
 }
 
 fn value_size(value: &Value) -> usize

@@ -9,7 +9,7 @@ ghost use Rattle.isp_plain.specs.Tables.{Table};
 use crate::defined::Defined;
 use crate::entries::{Entries, add_all};
 use crate::select::push_selected;
-use crate::update::{changes, count, remove_held, write};
+use crate::update::{changes, remove_held, write};
 use crate::{Assign, Condition, Reply, Row, Rows, Schema};
 use isp_mbr::Name;
 use std::alloc::{AllocError, Global};
@@ -121,9 +121,8 @@ impl PlainTable {
         ensures reply { result ≡ (delete condition.now self.old).reply }
         ensures table { self.new ≡ (delete condition.now self.old).table }
     {
-        let count = count(&self.entries, condition) as u64;
-        remove_held(&mut self.entries, condition);
-        Reply::Count(count)
+        let count = remove_held(&mut self.entries, condition);
+        Reply::Count(count as u64)
     }
 }
 

@@ -1,8 +1,10 @@
-//! What UPDATE makes of the rows of which a condition holds, and where DELETE takes them out.
+//! What UPDATE and DELETE do with the rows of which a condition holds.
 
-ghost use Rattle.std.specs.Prelude.{◌≡◌, ◌↔◌, ◌++◌, [], true, false, not, nat_lt, filter, length, map, slice_set, IfOk, MatchOption};
+ghost use Rattle.std.specs.Prelude.{◌≡◌, ◌↔◌, ◌++◌, [], true, false, not, nat_lt, filter, length, map, slice_set, IfOk, OnOk, MatchOption};
 ghost use Rattle.std.specs.List.{fold, list_any};
-ghost use Rattle.std.specs.Map.{values_of};
+ghost use Rattle.std.specs.List.Sorted.{IsStrictlySortedBy};
+ghost use Rattle.std.specs.Map.{keys_of, values_of};
+ghost use Rattle.std.specs.Ordering.{int_cmp};
 ghost use Rattle.isp_plain.specs.Conditions.{holds};
 ghost use Rattle.isp_plain.specs.Does.{count_of, outgrows, updated, with_set, with_sets};
 ghost use Rattle.isp_plain.specs.Entries.{with_value};
@@ -57,10 +59,11 @@ pub fn changes(
     sets: &[Assign],
     condition: &Condition,
 ) -> Result<Option<Vec<Changed>>, AllocError>
-    ensures { IfOk result (λ changes. MatchOption changes
+    ensures changes { IfOk result (λ changes. MatchOption changes
         (list_any (outgrows schema.now sets.now condition.now) (values_of entries.now.entries) ≡ true)
         (λ changed. (list_any (outgrows schema.now sets.now condition.now) (values_of entries.now.entries) ≡ false)
         × (changed.items ≡ changes_of sets.now condition.now entries.now.entries))) }
+    ensures ordered { OnOk result (IsStrictlySortedBy int_cmp (keys_of entries.now.entries)) }
 {
     let mut changed = Vec::new(alloc);
     for (key, row) in entries {
@@ -84,22 +87,12 @@ pub fn write(entries: &mut Entries, changed: Vec<Changed>)
     }
 }
 
-/// How many rows the condition holds of.
-pub fn count(entries: &Entries, condition: &Condition) -> usize
-    ensures { result ≡ count_of condition.now (values_of entries.now.entries) }
+/// Takes out the rows of which the condition holds, and says how many they were. It takes no memory.
+pub fn remove_held(entries: &mut Entries, condition: &Condition) -> usize
+    ensures count { result ≡ count_of condition.now (values_of entries.old.entries) }
+    ensures rest { entries.new.entries ≡ filter (λ e. not (holds condition.now e.1)) entries.old.entries }
 {
-    let mut count = 0;
-    for row in entries.values() {
-        if holds(condition, row) {
-            count += 1;
-        }
-    }
-    count
-}
-
-/// Takes out the rows of which the condition holds. It takes no memory.
-pub fn remove_held(entries: &mut Entries, condition: &Condition)
-    ensures { entries.new.entries ≡ filter (λ e. not (holds condition.now e.1)) entries.old.entries }
-{
+    let before = entries.len();
     entries.retain(|_key, row| !holds(condition, row));
+    before - entries.len()
 }
