@@ -1,8 +1,7 @@
 -- Rows that are put in the places of others one by one, and how many rows are left where some leave.
-use Rattle.std.proofs.Common.{◌≡◌, ℕ, suc, ◌+◌, ◌-◌, ℤ, pos, Bool, true, false, not, List, [], ◌∷◌, refl, ap, ◌∙◌, sym, length, map, cond, Some, None, Option, arith}
+use Rattle.std.proofs.Common.{◌≡◌, ℕ, suc, ◌+◌, ℤ, pos, Bool, true, false, not, List, [], ◌∷◌, refl, ap, ◌∙◌, sym, length, map, cond, Some, None, Option, arith}
 use Rattle.std.specs.Prelude.{filter}
-use Rattle.std.specs.declared.cmp.Ordering.{Ordering}
-use Rattle.std.specs.declared.cmp.Ordering.TheVariants.{Less, Equal, Greater}
+use Rattle.std.specs.declared.cmp.Ordering.TheVariants.{Less, Equal}
 use Rattle.std.specs.Ordering.{int_cmp, is_eq, ordering_reverse}
 use Rattle.std.specs.Cmp.{int_cmp_is, int_cmp_total}
 use Rattle.std.specs.List.{AllByRecursion, list_any}
@@ -100,8 +99,8 @@ module _ (new : Row → Row) (test : Row → Bool) where
   all_changed [] sorted = refl
   all_changed (e ∷ entries) sorted = step (test e.1) e entries (apart e.0 entries sorted.0) (all_changed entries sorted.1)
 
-  one_more : (b : Bool) (e : ℤ × Row) (rest : List (ℤ × Row)) (rows : List Row) → length (map (λ (e : ℤ × Row). (e.0, new e.1)) rest) ≡ length rows →
-      length (map (λ (e : ℤ × Row). (e.0, new e.1)) (cond b (e ∷ rest) rest)) ≡ length (cond b (e.1 ∷ rows) rows)
+  one_more : (b : Bool) (e : ℤ × Row) (rest : List (ℤ × Row)) (rows : List Row) → length {A = ℤ × Row} (map (λ (e : ℤ × Row). (e.0, new e.1)) rest) ≡ length rows →
+      length {A = ℤ × Row} (map (λ (e : ℤ × Row). (e.0, new e.1)) (cond b (e ∷ rest) rest)) ≡ length (cond b (e.1 ∷ rows) rows)
   one_more true e rest rows so_far = ap suc so_far
   one_more false e rest rows so_far = so_far
 

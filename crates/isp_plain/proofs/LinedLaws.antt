@@ -1,5 +1,5 @@
 -- Statements put no line feed into tables whose texts have none, and show none. So their replies' texts are one line.
-use Rattle.std.proofs.Common.{◌≡◌, ◌∙◌, ap, refl, ℕ, zero, suc, ℤ, Bool, true, false, not, ◌&&◌, ◌==◌, List, [], ◌∷◌, ◌++◌, map, Option, Some, None, if◌then◌else◌}
+use Rattle.std.proofs.Common.{◌≡◌, ◌∙◌, refl, ℕ, zero, suc, ℤ, Bool, true, false, not, List, [], ◌∷◌, map, Option, Some, None, if◌then◌else◌}
 use Rattle.std.specs.declared.cmp.Ordering.{Ordering}
 use Rattle.std.specs.declared.cmp.Ordering.TheVariants.{Less, Equal, Greater}
 use Rattle.std.specs.Ordering.{int_cmp, match_ordering}
@@ -16,7 +16,7 @@ use Rattle.isp_plain.specs.declared.statement.Condition.{Condition}
 use Rattle.isp_plain.specs.declared.statement.Statement.{Statement}
 use Rattle.isp_plain.specs.declared.statement.Statement.TheVariants.{Create, Insert, Select, Update, Delete, Begin, Commit, Rollback, Refused}
 use Rattle.isp_plain.specs.Conditions.{holds}
-use Rattle.isp_plain.specs.Does.{Change, Outcome, does, place_of, changed_in, changed_at, insert, insert_or, update, updated, delete, outgrows, cut, selected, with_set, with_sets, select_reply, table_at, table_named}
+use Rattle.isp_plain.specs.Does.{Change, does, place_of, changed_in, changed_at, insert, insert_or, update, updated, delete, outgrows, cut, selected, with_set, with_sets, select_reply, table_at}
 use Rattle.isp_plain.specs.Entries.{first_duplicate, with_row, with_rows}
 use Rattle.isp_plain.specs.Lined.{is_lined_value, is_lined_row, are_lined_rows, is_lined_table, are_lined, is_lined_statement, is_lined_reply}
 use Rattle.isp_plain.specs.Spelling.{is_one_line}

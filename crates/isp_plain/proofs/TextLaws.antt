@@ -7,8 +7,8 @@ use Rattle.std.proofs.lemmas.Bool.{and_parts, not-true}
 use Rattle.std.proofs.lemmas.Bool.Decides.{nat_tests}
 use Rattle.std.proofs.lemmas.List.Folds.{list_all-append}
 use Rattle.isp_geom.specs.declared.form.Point as p
-use Rattle.isp_geom.specs.declared.form.Form.{Form, Form-F, ind-Form, map-Form, roll-Form, fold-roll-Form}
-use Rattle.isp_wkt.specs.Printed.{printed, level, pair, enclosed, chained, listed, marked, line, lines}
+use Rattle.isp_geom.specs.declared.form.Form.{Form, Form-F, ind-Form, map-Form, fold-roll-Form}
+use Rattle.isp_wkt.specs.Printed.{printed, level, pair, chained, listed, marked, line, lines}
 use Rattle.isp_wkt.specs.Words.{word}
 use Rattle.isp_wkt.specs.declared.kind.Kind.{Kind}
 use Rattle.isp_wkt.specs.declared.kind.Kind.TheVariants as kind
@@ -21,7 +21,7 @@ use Rattle.isp_plain.specs.Alone.{answer_with}
 use Rattle.isp_plain.specs.Lined.{is_lined_value, is_lined_row, are_lined_rows, is_lined_reply}
 use Rattle.isp_plain.specs.Serial.{is_given}
 use Rattle.isp_plain.specs.Spelling.{is_one_line}
-use Rattle.isp_plain.specs.Texts.{Refusal, refusals, text_of, text_among, refusal_text, ok_text, end_text, full_text, deadlock_text, doubled, quoted, value_text, values_text, row_text, count_text, reply_text}
+use Rattle.isp_plain.specs.Texts.{Refusal, refusals, text_of, text_among, ok_text, end_text, full_text, deadlock_text, doubled, quoted, value_text, values_text, row_text, count_text, reply_text}
 
 -- two pieces of one line are one line
 pub one_line-append : (xs ys : List ℕ) → is_one_line xs ≡ true → is_one_line ys ≡ true → is_one_line (xs ++ ys) ≡ true

@@ -1,6 +1,6 @@
 -- Of which rows a condition holds, as the MySQL 8.0 manual has comparison operators and the functions that compare
 -- minimum bounding rectangles.
-use Rattle.std.specs.Prelude.{ℕ, Bool, true, false, List, slice_get, Option, Some, None}
+use Rattle.std.specs.Prelude.{Bool, false, slice_get, Option, Some, None}
 use Rattle.std.specs.Cmp.Lexicographic.{slice_cmp}
 use Rattle.std.specs.List.{list_all}
 use Rattle.std.specs.declared.cmp.Ordering.{Ordering}

@@ -1,12 +1,12 @@
 -- The box of a geometry, as the MySQL 8.0 manual has minimum bounding rectangles, and the key of a row.
-use Rattle.std.specs.Prelude.{ℤ, pos, List, [], ◌∷◌}
+use Rattle.std.specs.Prelude.{ℤ, pos, List, ◌∷◌}
 use Rattle.std.specs.Option.{unwrap_or}
 use Rattle.isp_mbr.specs.Corners.{Corners}
 use Rattle.isp_geom.specs.Bounds.{box_round, points_of}
 use Rattle.isp_geom.specs.declared.form.Form.{Form}
 use Rattle.isp_plain.specs.declared.value.Row.{Row}
 use Rattle.isp_plain.specs.declared.value.Value.{Value}
-use Rattle.isp_plain.specs.declared.value.Value.TheVariants.{Int, Text, Geo}
+use Rattle.isp_plain.specs.declared.value.Value.TheVariants.{Int}
 
 -- what a form without points has in place of a box; no geometry is one
 abbrev pub no_box : Corners

@@ -24,8 +24,6 @@ pub use laws::law_spelled_once;
 pub use plain::Plain;
 pub use script::{Place, Script, Session, Sessions, Texts, Word, Words};
 pub use size::row_size;
-pub use statement::{
-    Assign, Atom, Atoms, Condition, Indices, Op, Reply, Rows, Sets, Statement,
-};
+pub use statement::{Assign, Atom, Atoms, Condition, Indices, Op, Reply, Rows, Sets, Statement};
 pub use table::PlainTable;
 pub use value::{Column, Columns, Kind, Row, Schema, Value, Values, box_of};

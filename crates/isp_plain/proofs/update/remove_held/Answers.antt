@@ -1,5 +1,4 @@
-use Rattle.std.proofs.Common.{◌≡◌, not, rules, arith, length, ap, ◌∙◌}
-use Rattle.std.specs.Prelude.{filter}
+use Rattle.std.proofs.Common.{not, rules, arith, length, ap, ◌∙◌}
 use Rattle.std.proofs.lemmas.Map.Made.{filter_same_pairs}
 use Rattle.isp_plain.specs.Conditions.{holds}
 use Rattle.isp_plain.proofs.EntriesChanged.{counted}
