@@ -4,9 +4,11 @@ use Rattle.std.specs.Prelude.{All, ◌↔◌}
 use Rattle.std.specs.Option.{option_and_then}
 use Rattle.std.proofs.lemmas.Bool.Decides.{nat_tests}
 use Rattle.std.proofs.lemmas.List.Elements.{All-cons}
+use Rattle.isp_plain.specs.declared.script.Place.{Place}
 use Rattle.isp_plain.specs.declared.script.Script.{Script}
 use Rattle.isp_plain.specs.Alone.{turn_of, answer_with, answer_to, answers_to, tables_after}
 use Rattle.isp_plain.specs.Answers.{Answer, NeverFalls, answers_of, counted_from, is_end, is_full, is_deadlock}
+use Rattle.isp_plain.specs.Lined.{is_lined_statement}
 use Rattle.isp_plain.specs.Script.{texts_of, text_in, text_at}
 use Rattle.isp_plain.specs.Serial.{EndsAll, Repeats, Pending, none_pending, is_given, done, effect_of}
 use Rattle.isp_plain.specs.Tables.{Table}
@@ -34,6 +36,7 @@ or_true false = refl
 -- what of a language makes each of its statements a transaction of its own, with an answer that is not taken as given
 pub record IsPlainLanguage (language : Language) : Type 0 where
   pub effects : (text : List ℕ) → language.effect text ≡ stays
+  pub lined : (tables : List Table) (place : Place) (text : List ℕ) → is_lined_statement (language.meaning tables place text) ≡ true
   pub not_given : (tables : List Table) (session number : ℕ) (text : List ℕ) → is_given (answer_to language session number text tables) ≡ false
 
 stays_of : (language : Language) → IsPlainLanguage language → (o : Option (List ℕ)) → effect_of language o ≡ stays

@@ -8,15 +8,17 @@ use Rattle.isp_plain.specs.declared.script.Script.{Script}
 use Rattle.isp_plain.specs.declared.script.Session.{Session}
 use Rattle.isp_plain.specs.Alone.{turn_of, answer_with, answer_to, answers_to, tables_after, session_answers, sessions_answers, sessions_after, run_answers, run_after, AreSmall, IsAlone}
 use Rattle.isp_plain.specs.Answers.{Answer, NeverFalls, is_end, is_full, is_deadlock}
+use Rattle.isp_plain.specs.Lined.{are_lined}
 use Rattle.isp_plain.specs.Script.{texts_of}
-use Rattle.isp_plain.specs.Serial.{Serial, EndsAll, none_pending, done}
+use Rattle.isp_plain.specs.Serial.{Serial, EndsAll, none_pending, done, place_at}
 use Rattle.isp_plain.specs.Spelling.{IsShown}
 use Rattle.isp_plain.specs.Tables.{Table}
 use Rattle.isp_plain.specs.Texts.{end_text, full_text, deadlock_text}
 use Rattle.isp_plain.specs.Transactions.{Language}
 use Rattle.isp_plain.proofs.AloneLaws.{IsPlainLanguage, joined, over, all_of, rising, flat, if_so, if_else, same_number}
 use Rattle.isp_plain.proofs.AloneFits.{fits_at}
-use Rattle.isp_plain.proofs.TextLaws.{reply_line, end_line}
+use Rattle.isp_plain.proofs.LinedLaws.{does_line, does_lined}
+use Rattle.isp_plain.proofs.TextLaws.{end_line}
 
 texts_of_only : (session : Session) → option_map (λ s. s.texts) (find (λ s. s.number == session.number) (session ∷ [])) ≡ Some session.texts
 texts_of_only session = ap (option_map (λ s. s.texts)) (sym (if_so (session.number == session.number) (Some session) None (same_number session.number)))
@@ -88,20 +90,30 @@ end_not session number = (refl, refl)
 turn_small : (session number : ℕ) → number < 2 ^ 64 → turn_of session number < 2 ^ 64
 turn_small session number small = turn_either (session == 0) number small
 
+-- a statement leaves no line feed in the tables where none was
+text_lined : (language : Language) → IsPlainLanguage language → (session : ℕ) (text : List ℕ) (tables : List Table) → are_lined tables ≡ true → are_lined (done language tables session false text).tables ≡ true
+text_lined language is_plain session text tables lined =
+    does_lined tables (language.meaning tables (place_at session false) text) lined (is_plain.lined tables (place_at session false) text)
+
+all_lined : (language : Language) → IsPlainLanguage language → (session : ℕ) (texts : List (List ℕ)) (tables : List Table) → are_lined tables ≡ true → are_lined (tables_after language session texts tables) ≡ true
+all_lined language is_plain session [] tables lined = lined
+all_lined language is_plain session (text ∷ texts) tables lined =
+    all_lined language is_plain session texts (done language tables session false text).tables (text_lined language is_plain session text tables lined)
+
 plain_texts : (language : Language) → IsPlainLanguage language → (session n : ℕ) (texts : List (List ℕ)) (tables : List Table) →
-    session < 2 ^ 64 → n + length texts < 2 ^ 64 → All IsPlainAnswer (answers_to language session n texts tables)
-plain_texts language is_plain session n [] tables known small = λ k d inside. absurd (omega arith)
-plain_texts language is_plain session n (text ∷ texts) tables known small =
+    session < 2 ^ 64 → n + length texts < 2 ^ 64 → are_lined tables ≡ true → All IsPlainAnswer (answers_to language session n texts tables)
+plain_texts language is_plain session n [] tables known small lined = λ k d inside. absurd (omega arith)
+plain_texts language is_plain session n (text ∷ texts) tables known small lined =
     let a = answer_to language session n text tables in
     let given = given_parts (is_end a) (is_full a) (is_deadlock a) (is_plain.not_given tables session n text) in
     All-cons IsPlainAnswer a _
     (record {
-      shown = record { turn = turn_small session n (omega arith); session = known; number = omega arith; text = reply_line (done language tables session false text).reply };
+      shown = record { turn = turn_small session n (omega arith); session = known; number = omega arith; text = does_line tables (language.meaning tables (place_at session false) text) lined };
       turn = refl;
       not_full = given.0;
       not_deadlock = given.1;
     })
-    (plain_texts language is_plain session (n + 1) texts (done language tables session false text).tables known (omega arith))
+    (plain_texts language is_plain session (n + 1) texts (done language tables session false text).tables known (omega arith) (text_lined language is_plain session text tables lined))
 
 plain_end : (session number : ℕ) → session < 2 ^ 64 → number < 2 ^ 64 → IsPlainAnswer (answer_with session number end_text)
 plain_end session number known small = record {
@@ -111,21 +123,21 @@ plain_end session number known small = record {
   not_deadlock = (end_not session number).1;
 }
 
-plain_sessions : (language : Language) → IsPlainLanguage language → (sessions : List Session) (tables : List Table) → AreSmall sessions →
+plain_sessions : (language : Language) → IsPlainLanguage language → (sessions : List Session) (tables : List Table) → AreSmall sessions → are_lined tables ≡ true →
     All IsPlainAnswer (sessions_answers language sessions tables)
-plain_sessions language is_plain [] tables small = λ k d inside. absurd (omega arith)
-plain_sessions language is_plain (session ∷ sessions) tables small =
+plain_sessions language is_plain [] tables small lined = λ k d inside. absurd (omega arith)
+plain_sessions language is_plain (session ∷ sessions) tables small lined =
     let said = answers_to language session.number 1 session.texts tables in
     let last = answer_with session.number (length session.texts + 1) end_text in
     All-append IsPlainAnswer (said ++ last ∷ []) _
     (All-append IsPlainAnswer said (last ∷ [])
-    (plain_texts language is_plain session.number 1 session.texts tables small.0 (omega arith))
+    (plain_texts language is_plain session.number 1 session.texts tables small.0 (omega arith) lined)
     (All-cons IsPlainAnswer last [] (plain_end session.number (length session.texts + 1) small.0 small.1) (λ k d inside. absurd (omega arith))))
-    (plain_sessions language is_plain sessions (tables_after language session.number session.texts tables) small.2)
+    (plain_sessions language is_plain sessions (tables_after language session.number session.texts tables) small.2 (all_lined language is_plain session.number session.texts tables lined))
 
 pub all_plain : (language : Language) (script : Script) → IsPlainLanguage language → length script.setup + 1 < 2 ^ 64 → AreSmall script.sessions →
     All IsPlainAnswer (run_answers language script)
 all_plain language script is_plain setup_small sessions_small =
     All-append IsPlainAnswer (answers_to language 0 1 script.setup []) _
-    (plain_texts language is_plain 0 1 script.setup [] (omega arith) (omega arith))
-    (plain_sessions language is_plain script.sessions (tables_after language 0 script.setup []) sessions_small)
+    (plain_texts language is_plain 0 1 script.setup [] (omega arith) (omega arith) refl)
+    (plain_sessions language is_plain script.sessions (tables_after language 0 script.setup []) sessions_small (all_lined language is_plain 0 script.setup [] refl))
