@@ -18,5 +18,5 @@ mod value;
 pub use laws::law_spelled_once;
 pub use plain::Plain;
 pub use script::{Place, Script, Session, Sessions, Texts, Word, Words};
-pub use statement::{Atom, Atoms, Condition, Indices, Reply, Rows, Statement};
+pub use statement::{Atom, Atoms, Condition, Indices, Op, Reply, Rows, Statement};
 pub use value::{Column, Columns, Geometry, Kind, Point, Row, Schema, Value, Values, box_of};

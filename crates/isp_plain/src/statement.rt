@@ -10,6 +10,17 @@ pub type Rows = Items<Row>;
 /// Columns by their places in the schema, from 0.
 pub type Indices = Items<u32>;
 
+/// How a plain test compares a row's value with a number or a text (the MySQL 8.0 manual on comparison operators).
+#[derive(Clone, Copy, Debug, PartialEq, Eq)]
+pub enum Op {
+    Eq,
+    Ne,
+    Lt,
+    Le,
+    Gt,
+    Ge,
+}
+
 /// One test of a condition: that the box of the column's geometry satisfies the predicate.
 #[derive(Clone, Copy, Debug, PartialEq, Eq)]
 pub enum Atom {

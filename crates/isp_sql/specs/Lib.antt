@@ -1,6 +1,0 @@
-pub mod Lines
-pub mod Meaning
-pub mod Phrases
-pub mod Points
-pub mod Reading
-pub mod Tokens

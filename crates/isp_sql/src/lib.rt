@@ -1,17 +1,9 @@
-//! The narrow language that is built: which bytes are a script, and what the texts of its statements mean.
-//!
-//! A script is read line by line (`lines`, `script`). A statement's text is cut into tokens (`token`), matched against
-//! the fixed words of the statements that are built (`phrase`, `point`), and bound to the table that is there
-//! (`meaning`).
+//! The statements: which texts they are, and what each of them says.
 #![tactic(auto)]
 
-mod bytes;
-mod lines;
-mod meaning;
-mod phrase;
-mod point;
-mod script;
-mod token;
+mod parsed;
 
-pub use meaning::bind;
-pub use script::script_of;
+pub use parsed::{
+    Literal, LiteralRows, Literals, Names, Parsed, ParsedAtom, ParsedAtoms, ParsedColumn,
+    ParsedColumns, ParsedKind, ParsedSet, ParsedSets,
+};
