@@ -1,0 +1,5 @@
+pub mod Following
+pub mod Reading
+pub mod Scanning
+pub mod Tokens
+pub mod Words
