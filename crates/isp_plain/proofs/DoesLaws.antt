@@ -1,46 +1,91 @@
--- The reply of a statement that tables answer is their own, unless the statement is a refusal with another number.
-use Rattle.std.proofs.Common.{◌≡◌, ℕ, ℤ, false, ◌==◌, List, refl, Option, Some, None}
+-- The reply of a statement that tables answer is their own, unless the statement is a refusal with another number; and it
+-- has a text, unless the statement is a refusal whose number has none.
+use Rattle.std.proofs.Common.{◌≡◌, ℕ, ℤ, pos, Bool, true, false, ◌==◌, List, refl, Option, Some, None, if◌then◌else◌}
 use Rattle.std.specs.Prelude.{slice_get}
+use Rattle.std.specs.List.{list_any}
+use Rattle.std.specs.Map.{values_of}
 use Rattle.isp_plain.specs.declared.value.Row.{Row}
+use Rattle.isp_plain.specs.declared.statement.Assign.{Assign}
 use Rattle.isp_plain.specs.declared.statement.Condition.{Condition}
+use Rattle.isp_plain.specs.declared.statement.Reply.{Reply}
+use Rattle.isp_plain.specs.declared.statement.Reply.TheVariants as reply
 use Rattle.isp_plain.specs.declared.statement.Statement.{Statement}
-use Rattle.isp_plain.specs.declared.statement.Statement.TheVariants.{Create, Insert, Select, Begin, Commit, Rollback, Refused}
-use Rattle.isp_plain.specs.Does.{does, place_of, insert_in, insert_at, insert_reply, select_reply, table_named}
+use Rattle.isp_plain.specs.declared.statement.Statement.TheVariants.{Create, Insert, Select, Update, Delete, Begin, Commit, Rollback, Refused}
+use Rattle.isp_plain.specs.Does.{Change, does, place_of, changed_in, changed_at, insert, insert_or, update, delete, outgrows, select_reply, table_named}
 use Rattle.isp_plain.specs.Entries.{first_duplicate}
 use Rattle.isp_plain.specs.Tables.{Table}
+use Rattle.isp_plain.specs.Texts.{HasText, has_text, refusals}
 use Rattle.isp_plain.proofs.TextLaws.{IsOwn}
 
 -- where the statement is a refusal, it is none of a full file or a deadlock
 abbrev pub RefusesOwn : Statement → Type 0
 RefusesOwn (Refused number at) = ((number == 1114) ≡ false) × ((number == 1213) ≡ false)
-RefusesOwn (Create name schema) = Unit {0}
-RefusesOwn (Insert name rows) = Unit {0}
-RefusesOwn (Select name columns condition) = Unit {0}
-RefusesOwn Begin = Unit {0}
-RefusesOwn Commit = Unit {0}
-RefusesOwn Rollback = Unit {0}
+RefusesOwn _ = Unit {0}
 
-insert_own : (rows : List Row) (duplicate : Option ℤ) → IsOwn (insert_reply rows duplicate)
-insert_own rows None = tt
-insert_own rows (Some key) = (refl, refl)
+-- where the statement is a refusal, its number has a text
+abbrev pub RefusesWithText : Statement → Type 0
+RefusesWithText (Refused number at) = has_text number ≡ true
+RefusesWithText _ = Unit {0}
 
-at_own : (tables : List Table) (place : ℕ) (rows : List Row) (table : Option Table) → IsOwn (insert_at tables place rows table).reply
-at_own tables place rows None = (refl, refl)
-at_own tables place rows (Some table) = insert_own rows (first_duplicate table.rows rows)
+known : (has_text 1062 ≡ true) × (has_text 1146 ≡ true) × (has_text 9011 ≡ true)
+unfolding refusals
+known = (refl, refl, refl)
 
-in_own : (tables : List Table) (place : Option ℕ) (rows : List Row) → IsOwn (insert_in tables place rows).reply
-in_own tables None rows = (refl, refl)
-in_own tables (Some place) rows = at_own tables place rows (slice_get tables place)
+module _ (P : Reply → Type 0) (missing : P (reply.Err 1146 (pos 0))) (duplicate : (key : ℤ) → P (reply.Err 1062 key)) (large : P (reply.Err 9011 (pos 0)))
+    (counted : (n : ℕ) → P (reply.Count n)) where
+  insert_gives : (rows : List Row) (table : Table) (found : Option ℤ) → P (insert_or rows table found).reply
+  insert_gives rows table None = counted _
+  insert_gives rows table (Some key) = duplicate key
+
+  update_gives : (first other : Change) (b : Bool) → P first.reply → P other.reply → P (if b then first else other).reply
+  update_gives first other true is later = is
+  update_gives first other false is later = later
+
+  at_gives : (tables : List Table) (place : ℕ) (change : Table → Change) → ((table : Table) → P (change table).reply) → (table : Option Table) → P (changed_at tables place change table).reply
+  at_gives tables place change each None = missing
+  at_gives tables place change each (Some table) = each table
+
+  in_gives : (tables : List Table) (change : Table → Change) → ((table : Table) → P (change table).reply) → (place : Option ℕ) → P (changed_in tables place change).reply
+  in_gives tables change each None = missing
+  in_gives tables change each (Some place) = at_gives tables place change each (slice_get tables place)
+
+  -- what holds of each reply that a table gives holds of the answer to a statement that changes one
+  pub inserts : (tables : List Table) (name : List ℕ) (rows : List Row) → P (does tables (Insert name rows)).reply
+  inserts tables name rows = in_gives tables (insert rows) (λ table. insert_gives rows table (first_duplicate table.rows rows)) (place_of tables name)
+
+  pub updates : (tables : List Table) (name : List ℕ) (sets : List Assign) (condition : Condition) → P (does tables (Update name sets condition)).reply
+  updates tables name sets condition =
+      in_gives tables (update sets condition) (λ table. update_gives _ _ (list_any (outgrows table.schema sets condition) (values_of table.rows)) large (counted _)) (place_of tables name)
+
+  pub deletes : (tables : List Table) (name : List ℕ) (condition : Condition) → P (does tables (Delete name condition)).reply
+  deletes tables name condition = in_gives tables (delete condition) (λ table. counted _) (place_of tables name)
 
 select_own : (table : Option Table) (columns : List ℕ) (condition : Condition) → IsOwn (select_reply table columns condition)
 select_own None columns condition = (refl, refl)
 select_own (Some table) columns condition = tt
 
+select_has_text : (table : Option Table) (columns : List ℕ) (condition : Condition) → HasText (select_reply table columns condition)
+select_has_text None columns condition = known.1
+select_has_text (Some table) columns condition = tt
+
 pub does_own : (tables : List Table) (statement : Statement) → RefusesOwn statement → IsOwn (does tables statement).reply
 does_own tables (Create name schema) own = tt
-does_own tables (Insert name rows) own = in_own tables (place_of tables name) rows
+does_own tables (Insert name rows) own = inserts IsOwn (refl, refl) (λ key. (refl, refl)) (refl, refl) (λ n. tt) tables name rows
 does_own tables (Select name columns condition) own = select_own (table_named tables name) columns condition
+does_own tables (Update name sets condition) own = updates IsOwn (refl, refl) (λ key. (refl, refl)) (refl, refl) (λ n. tt) tables name sets condition
+does_own tables (Delete name condition) own = deletes IsOwn (refl, refl) (λ key. (refl, refl)) (refl, refl) (λ n. tt) tables name condition
 does_own tables Begin own = tt
 does_own tables Commit own = tt
 does_own tables Rollback own = tt
 does_own tables (Refused number at) own = own
+
+pub does_has_text : (tables : List Table) (statement : Statement) → RefusesWithText statement → HasText (does tables statement).reply
+does_has_text tables (Create name schema) known_one = tt
+does_has_text tables (Insert name rows) known_one = inserts HasText known.1 (λ key. known.0) known.2 (λ n. tt) tables name rows
+does_has_text tables (Select name columns condition) known_one = select_has_text (table_named tables name) columns condition
+does_has_text tables (Update name sets condition) known_one = updates HasText known.1 (λ key. known.0) known.2 (λ n. tt) tables name sets condition
+does_has_text tables (Delete name condition) known_one = deletes HasText known.1 (λ key. known.0) known.2 (λ n. tt) tables name condition
+does_has_text tables Begin known_one = tt
+does_has_text tables Commit known_one = tt
+does_has_text tables Rollback known_one = tt
+does_has_text tables (Refused number at) known_one = known_one

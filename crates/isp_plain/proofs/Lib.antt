@@ -1,8 +1,10 @@
 pub mod AloneSerial
 pub mod AloneFits
 pub mod AloneLaws
+pub mod DoesLaws
 pub mod EntriesBack
+pub mod EntriesChanged
+pub mod LinedLaws
 pub mod SignedReads
 pub mod SpellingLaws
 pub mod TextLaws
-pub mod DoesLaws

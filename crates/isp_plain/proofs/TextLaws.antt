@@ -1,19 +1,27 @@
 -- The text of every reply is one line, and none but a refusal's is taken for END, a full file or a deadlock.
-use Rattle.std.proofs.Common.{◌≡◌, ℕ, zero, suc, ℤ, pos, negsuc, ◌/◌, ◌%◌, Bool, true, false, not, ◌==◌, List, [], ◌∷◌, ◌++◌, length, refl, arith, if◌then◌else◌, codes}
+use Rattle.std.proofs.Common.{◌≡◌, ◌∙◌, ap, sym, subst, ℕ, zero, suc, ℤ, pos, negsuc, ◌/◌, ◌%◌, Bool, true, false, not, ◌==◌, ◌&&◌, ◌||◌, List, [], ◌∷◌, ◌++◌, map, length, refl, arith, if◌then◌else◌, codes}
 use Rattle.std.specs.Fmt.{decimal, signed_decimal, digits, digits_onto, digit_glyph}
-use Rattle.std.specs.List.{flat_map}
+use Rattle.std.specs.List.{flat_map, list_all}
+use Rattle.std.specs.Str.{bytes_eq}
+use Rattle.std.proofs.lemmas.Bool.{and_parts, not-true}
 use Rattle.std.proofs.lemmas.Bool.Decides.{nat_tests}
 use Rattle.std.proofs.lemmas.List.Folds.{list_all-append}
-use Rattle.isp_plain.specs.declared.value.Geometry.TheVariants as geometry
+use Rattle.isp_geom.specs.declared.form.Point as p
+use Rattle.isp_geom.specs.declared.form.Form.{Form, Form-F, ind-Form, map-Form, fold-roll-Form}
+use Rattle.isp_wkt.specs.Printed.{printed, level, pair, chained, listed, marked, line, lines}
+use Rattle.isp_wkt.specs.Words.{word}
+use Rattle.isp_wkt.specs.declared.kind.Kind.{Kind}
+use Rattle.isp_wkt.specs.declared.kind.Kind.TheVariants as kind
 use Rattle.isp_plain.specs.declared.value.Row.{Row}
 use Rattle.isp_plain.specs.declared.value.Value.{Value}
-use Rattle.isp_plain.specs.declared.value.Value.TheVariants.{Int, Geo}
+use Rattle.isp_plain.specs.declared.value.Value.TheVariants.{Int, Text, Geo}
 use Rattle.isp_plain.specs.declared.statement.Reply.{Reply}
 use Rattle.isp_plain.specs.declared.statement.Reply.TheVariants as reply
 use Rattle.isp_plain.specs.Alone.{answer_with}
+use Rattle.isp_plain.specs.Lined.{is_lined_value, is_lined_row, are_lined_rows, is_lined_reply}
 use Rattle.isp_plain.specs.Serial.{is_given}
 use Rattle.isp_plain.specs.Spelling.{is_one_line}
-use Rattle.isp_plain.specs.Texts.{ok_text, end_text, full_text, deadlock_text, duplicate_text, no_table_text, not_built_text, refusal_text, coordinates, value_text, values_text, row_text, count_text, reply_text}
+use Rattle.isp_plain.specs.Texts.{Refusal, refusals, text_of, text_among, ok_text, end_text, full_text, deadlock_text, doubled, quoted, value_text, values_text, row_text, count_text, reply_text}
 
 -- two pieces of one line are one line
 pub one_line-append : (xs ys : List ℕ) → is_one_line xs ≡ true → is_one_line ys ≡ true → is_one_line (xs ++ ys) ≡ true
@@ -43,51 +51,134 @@ signed_line : (z : ℤ) → is_one_line (signed_decimal z) ≡ true
 signed_line (pos n) = decimal_line n
 signed_line (negsuc n) = one_line-cons 45 (decimal (suc n)) refl (decimal_line (suc n))
 
-value_line : (value : Value) → is_one_line (value_text value) ≡ true
-value_line (Int number) = signed_line number
-value_line (Geo (geometry.Point p)) =
-    one_line-append (codes "POINT(") (coordinates p.x p.y ++ 41 ∷ []) refl
-    (one_line-append (coordinates p.x p.y) (41 ∷ []) (one_line-append (signed_decimal p.x) (32 ∷ signed_decimal p.y) (signed_line p.x) (one_line-cons 32 (signed_decimal p.y) refl (signed_line p.y))) refl)
+-- ---- geometries
 
-others_line : (values : List Value) → is_one_line (flat_map (λ value. 44 ∷ value_text value) values) ≡ true
-others_line [] = refl
-others_line (value ∷ values) = one_line-append (44 ∷ value_text value) _ (one_line-cons 44 (value_text value) refl (value_line value)) (others_line values)
+word_line : (k : Kind) → is_one_line (word k) ≡ true
+unfolding word
+word_line kind.Point = refl
+word_line kind.LineString = refl
+word_line kind.Polygon = refl
+word_line kind.MultiPoint = refl
+word_line kind.MultiLineString = refl
+word_line kind.MultiPolygon = refl
+word_line kind.Collection = refl
 
-values_line : (values : List Value) → is_one_line (values_text values) ≡ true
-values_line [] = refl
-values_line (first ∷ others) = one_line-append (value_text first) _ (value_line first) (others_line others)
+pair_line : (x : p.Point) → is_one_line (pair x) ≡ true
+pair_line x = one_line-append (signed_decimal x.x) (32 ∷ signed_decimal x.y) (signed_line x.x) (one_line-cons 32 (signed_decimal x.y) refl (signed_line x.y))
 
-row_line : (row : Row) → is_one_line (row_text row) ≡ true
-row_line row = one_line-cons 40 (values_text row.values ++ 41 ∷ []) refl (one_line-append (values_text row.values) (41 ∷ []) (values_line row.values) refl)
+marked_line : (x : p.Point) → is_one_line (marked x) ≡ true
+marked_line x = one_line-cons 40 (pair x ++ 41 ∷ []) refl (one_line-append (pair x) (41 ∷ []) (pair_line x) refl)
 
-rows_line : (rows : List Row) → is_one_line (flat_map (λ row. 32 ∷ row_text row) rows) ≡ true
-rows_line [] = refl
-rows_line (row ∷ rows) = one_line-append (32 ∷ row_text row) _ (one_line-cons 32 (row_text row) refl (row_line row)) (rows_line rows)
+chained_line : {X : Type 0} (member : X → List ℕ) → ((x : X) → is_one_line (member x) ≡ true) → (before : ℕ) → (before == 10) ≡ false → (xs : List X) → is_one_line (chained member before xs) ≡ true
+chained_line member each before is [] = refl
+chained_line member each before is (x ∷ xs) =
+    one_line-cons before (member x ++ chained member 44 xs) is
+    (one_line-append (member x) (chained member 44 xs) (each x) (chained_line member each 44 refl xs))
+
+listed_line : {X : Type 0} (member : X → List ℕ) → ((x : X) → is_one_line (member x) ≡ true) → (xs : List X) → is_one_line (listed member xs) ≡ true
+listed_line member each xs = one_line-append (chained member 40 xs) (41 ∷ []) (chained_line member each 40 refl xs) refl
+
+after_word : (k : Kind) (body : List ℕ) → is_one_line body ≡ true → is_one_line (word k ++ body) ≡ true
+after_word k body is = one_line-append (word k) body (word_line k) is
+
+lines_line : (ls : List (List p.Point)) → is_one_line (lines ls) ≡ true
+lines_line ls = listed_line line (listed_line pair pair_line) ls
+
+abbrev IsLine : Form → Type 0
+IsLine form = is_one_line (printed form) ≡ true
+
+members_line : (before : ℕ) → (before == 10) ≡ false → (members : List ((form : Form) × IsLine form)) →
+    is_one_line (chained (λ member. member) before (map printed (map (λ e. e.0) members))) ≡ true
+members_line before is [] = refl
+members_line before is (member ∷ members) =
+    let others = chained (λ member. member) 44 (map printed (map (λ e. e.0) members)) in
+    one_line-cons before (printed member.0 ++ others) is (one_line-append (printed member.0) others member.1 (members_line 44 refl members))
+
+-- one layer of a form, with the printed form of each member, where these are one line
+layer_line : (y : Form-F ((form : Form) × IsLine form)) → is_one_line (level (map-Form Form (List ℕ) printed (map-Form ((form : Form) × IsLine form) Form (λ e. e.0) y))) ≡ true
+layer_line (Form-F.Point x) = after_word kind.Point (marked x) (marked_line x)
+layer_line (Form-F.LineString ps) = after_word kind.LineString (line ps) (listed_line pair pair_line ps)
+layer_line (Form-F.Polygon rings) = after_word kind.Polygon (lines rings) (lines_line rings)
+layer_line (Form-F.MultiPoint ps) = after_word kind.MultiPoint (listed marked ps) (listed_line marked marked_line ps)
+layer_line (Form-F.MultiLineString ls) = after_word kind.MultiLineString (lines ls) (lines_line ls)
+layer_line (Form-F.MultiPolygon ps) = after_word kind.MultiPolygon (listed lines ps) (listed_line lines lines_line ps)
+layer_line (Form-F.Collection members) =
+    let texts = chained (λ member. member) 40 (map printed (map (λ e. e.0) members)) in
+    after_word kind.Collection (texts ++ 41 ∷ []) (one_line-append texts (41 ∷ []) (members_line 40 refl members) refl)
+
+printed_line : (form : Form) → is_one_line (printed form) ≡ true
+unfolding printed
+printed_line = ind-Form IsLine (λ x y is.
+    let layer = subst (λ z. is_one_line (level (map-Form Form (List ℕ) printed z)) ≡ true) is (layer_line y) in
+    ap is_one_line (fold-roll-Form (List ℕ) level x) ∙ layer)
+
+-- ---- rows
+
+doubled_line : (b : ℕ) → (b == 10) ≡ false → is_one_line (doubled b) ≡ true
+doubled_line b is = either (b == 39) (39 ∷ 39 ∷ []) (b ∷ []) refl (one_line-cons b [] is refl)
+
+all_doubled_line : (text : List ℕ) → is_one_line text ≡ true → is_one_line (flat_map doubled text) ≡ true
+all_doubled_line [] is = refl
+all_doubled_line (b ∷ text) is =
+    let parts = and_parts (not (b == 10)) (is_one_line text) is in
+    one_line-append (doubled b) (flat_map doubled text) (doubled_line b (not-true (b == 10) parts.0)) (all_doubled_line text parts.1)
+
+quoted_line : (text : List ℕ) → is_one_line text ≡ true → is_one_line (quoted text) ≡ true
+quoted_line text is = one_line-cons 39 (flat_map doubled text ++ 39 ∷ []) refl (one_line-append (flat_map doubled text) (39 ∷ []) (all_doubled_line text is) refl)
+
+value_line : (value : Value) → is_lined_value value ≡ true → is_one_line (value_text value) ≡ true
+value_line (Int number) is = signed_line number
+value_line (Text text) is = quoted_line text is
+value_line (Geo form) is = printed_line form
+
+others_line : (values : List Value) → list_all is_lined_value values ≡ true → is_one_line (flat_map (λ value. 44 ∷ value_text value) values) ≡ true
+others_line [] is = refl
+others_line (value ∷ values) is =
+    let parts = and_parts (is_lined_value value) (list_all is_lined_value values) is in
+    one_line-append (44 ∷ value_text value) _ (one_line-cons 44 (value_text value) refl (value_line value parts.0)) (others_line values parts.1)
+
+values_line : (values : List Value) → list_all is_lined_value values ≡ true → is_one_line (values_text values) ≡ true
+values_line [] is = refl
+values_line (first ∷ others) is =
+    let parts = and_parts (is_lined_value first) (list_all is_lined_value others) is in
+    one_line-append (value_text first) _ (value_line first parts.0) (others_line others parts.1)
+
+row_line : (row : Row) → is_lined_row row ≡ true → is_one_line (row_text row) ≡ true
+row_line row is = one_line-cons 40 (values_text row.values ++ 41 ∷ []) refl (one_line-append (values_text row.values) (41 ∷ []) (values_line row.values is) refl)
+
+rows_line : (rows : List Row) → are_lined_rows rows ≡ true → is_one_line (flat_map (λ row. 32 ∷ row_text row) rows) ≡ true
+rows_line [] is = refl
+rows_line (row ∷ rows) is =
+    let parts = and_parts (is_lined_row row) (are_lined_rows rows) is in
+    one_line-append (32 ∷ row_text row) _ (one_line-cons 32 (row_text row) refl (row_line row parts.0)) (rows_line rows parts.1)
 
 count_line : (n : ℕ) → is_one_line (count_text n) ≡ true
 count_line n = one_line-append (codes "OK ") (decimal n ++ codes " rows") refl (one_line-append (decimal n) (codes " rows") (decimal_line n) refl)
 
-fixed_lines : (is_one_line ok_text ≡ true) × (is_one_line end_text ≡ true) × (is_one_line full_text ≡ true) × (is_one_line deadlock_text ≡ true)
-    × (is_one_line duplicate_text ≡ true) × (is_one_line no_table_text ≡ true) × (is_one_line not_built_text ≡ true)
-unfolding ok_text end_text full_text deadlock_text duplicate_text no_table_text not_built_text
-fixed_lines = (refl, refl, refl, refl, refl, refl, refl)
+-- ---- refusals
+
+fixed_lines : (is_one_line ok_text ≡ true) × (is_one_line end_text ≡ true) × (list_all (λ refusal. is_one_line refusal.words) refusals ≡ true)
+unfolding ok_text end_text full_text deadlock_text refusals
+fixed_lines = (refl, refl, refl)
 
 pub end_line : is_one_line end_text ≡ true
 end_line = fixed_lines.1
 
-refusal_line : (number : ℕ) (at : ℤ) → is_one_line (refusal_text number at) ≡ true
-refusal_line number at =
-    either (number == 1062) _ _ (one_line-append duplicate_text _ fixed_lines.4 (signed_line at))
-    (either (number == 1114) _ _ fixed_lines.2
-    (either (number == 1146) _ _ fixed_lines.5
-    (either (number == 1213) _ _ fixed_lines.3 fixed_lines.6)))
+text_of_line : (refusal : Refusal) (at : ℤ) → is_one_line refusal.words ≡ true → is_one_line (text_of refusal at) ≡ true
+text_of_line refusal at is = one_line-append refusal.words _ is (either refusal.has_place (signed_decimal at) [] (signed_line at) refl)
 
-pub reply_line : (r : Reply) → is_one_line (reply_text r) ≡ true
-reply_line reply.Ok = fixed_lines.0
-reply_line (reply.Count n) = count_line n
-reply_line (reply.Rows rows) = one_line-append (count_text (length rows)) _ (count_line (length rows)) (rows_line rows)
-reply_line (reply.Err number at) = refusal_line number at
-reply_line reply.End = fixed_lines.1
+among_line : (these : List Refusal) (number : ℕ) (at : ℤ) → list_all (λ refusal. is_one_line refusal.words) these ≡ true → is_one_line (text_among these number at) ≡ true
+among_line [] number at is = refl
+among_line (refusal ∷ others) number at is =
+    let parts = and_parts (is_one_line refusal.words) (list_all (λ refusal. is_one_line refusal.words) others) is in
+    either (refusal.number == number) (text_of refusal at) (text_among others number at) (text_of_line refusal at parts.0) (among_line others number at parts.1)
+
+pub reply_line : (r : Reply) → is_lined_reply r ≡ true → is_one_line (reply_text r) ≡ true
+reply_line reply.Ok is = fixed_lines.0
+reply_line (reply.Count n) is = count_line n
+reply_line (reply.Rows rows) is = one_line-append (count_text (length rows)) _ (count_line (length rows)) (rows_line rows is)
+reply_line (reply.Err number at) is = among_line refusals number at fixed_lines.2
+reply_line reply.End is = fixed_lines.1
 
 -- a reply that tables give, not a full file, a deadlock or the end of a session
 abbrev pub IsOwn : Reply → Type 0
@@ -100,21 +191,13 @@ IsOwn reply.End = ⊥
 abbrev is_taken : ℕ → ℕ → List ℕ → Bool
 is_taken session number text = is_given (answer_with session number text)
 
-chosen : (session number : ℕ) (b : Bool) (xs ys : List ℕ) → is_taken session number xs ≡ false → is_taken session number ys ≡ false → is_taken session number (if b then xs else ys) ≡ false
-chosen session number true xs ys first second = first
-chosen session number false xs ys first second = second
+fixed_own : (session number : ℕ) → is_taken session number ok_text ≡ false
+unfolding ok_text end_text full_text deadlock_text
+fixed_own session number = refl
 
-passed_over : (session number : ℕ) (b : Bool) (xs ys : List ℕ) → b ≡ false → is_taken session number ys ≡ false → is_taken session number (if b then xs else ys) ≡ false
-passed_over session number true xs ys is second = cc
-passed_over session number false xs ys is second = second
-
-duplicate_own : (session number : ℕ) (at : ℤ) → is_taken session number (duplicate_text ++ signed_decimal at) ≡ false
-unfolding duplicate_text end_text full_text deadlock_text
-duplicate_own session number at = refl
-
-fixed_own : (session number : ℕ) → (is_taken session number ok_text ≡ false) × (is_taken session number no_table_text ≡ false) × (is_taken session number not_built_text ≡ false)
-unfolding ok_text no_table_text not_built_text end_text full_text deadlock_text
-fixed_own session number = (refl, refl, refl)
+nothing_own : (session number : ℕ) → is_taken session number [] ≡ false
+unfolding end_text full_text deadlock_text
+nothing_own session number = refl
 
 counted_own : (session number n : ℕ) (more : List ℕ) → is_taken session number (count_text n ++ more) ≡ false
 unfolding end_text full_text deadlock_text
@@ -124,13 +207,75 @@ count_own : (session number n : ℕ) → is_taken session number (count_text n) 
 unfolding end_text full_text deadlock_text
 count_own session number n = refl
 
+-- the words differ from the text before they end, or go on behind its end
+abbrev differs : List ℕ → List ℕ → Bool
+differs [] text = false
+differs (b ∷ words) [] = true
+differs (b ∷ words) (c ∷ text) = if b == c then differs words text else true
+
+differs_at : (same : Bool) (words text more : List ℕ) → (differs words text ≡ true → bytes_eq (words ++ more) text ≡ false) →
+    (if same then differs words text else true) ≡ true → (same && bytes_eq (words ++ more) text) ≡ false
+differs_at true words text more later is = later is
+differs_at false words text more later is = refl
+
+differs_with_more : (words text more : List ℕ) → differs words text ≡ true → bytes_eq (words ++ more) text ≡ false
+differs_with_more [] text more is = cc
+differs_with_more (b ∷ words) [] more is = refl
+differs_with_more (b ∷ words) (c ∷ text) more is = differs_at (b == c) words text more (differs_with_more words text more) is
+
+abbrev differs_from_given : List ℕ → Bool
+differs_from_given words = differs words end_text && (differs words full_text && differs words deadlock_text)
+
+-- the words of a refusal differ from the texts that are given, unless it is one of these
+abbrev own_or_given : Refusal → Bool
+own_or_given refusal = if refusal.number == 1114 then true else if refusal.number == 1213 then true else differs_from_given refusal.words
+
+all_own_or_given : list_all own_or_given refusals ≡ true
+unfolding refusals full_text deadlock_text end_text
+all_own_or_given = refl
+
+or_none : (a b c : Bool) → a ≡ false → b ≡ false → c ≡ false → (a || b || c) ≡ false
+or_none a b c first second third = rw (first, second, third) refl
+
+words_own : (session number : ℕ) (words more : List ℕ) → differs_from_given words ≡ true → is_taken session number (words ++ more) ≡ false
+words_own session number words more is =
+    let first = and_parts (differs words end_text) (differs words full_text && differs words deadlock_text) is in
+    let others = and_parts (differs words full_text) (differs words deadlock_text) first.1 in
+    or_none _ _ _ (differs_with_more words end_text more first.0) (differs_with_more words full_text more others.0) (differs_with_more words deadlock_text more others.1)
+
+if_other : {X : Type 0} (b : Bool) (x y : X) → b ≡ false → (if b then x else y) ≡ y
+if_other true x y is = cc
+if_other false x y is = refl
+
+same_number : (n m : ℕ) → (n == m) ≡ true → n ≡ m
+same_number n m is = grind (arith, nat_tests)
+
+-- the refusal of a number that is neither a full file's nor a deadlock's
+refusal_own : (session number code : ℕ) (at : ℤ) (refusal : Refusal) → (code == 1114) ≡ false → (code == 1213) ≡ false → (refusal.number == code) ≡ true →
+    own_or_given refusal ≡ true → is_taken session number (text_of refusal at) ≡ false
+refusal_own session number code at refusal not_full not_deadlock same is =
+    let full : (refusal.number == 1114) ≡ false = ap (λ n. n == 1114) (same_number refusal.number code same) ∙ not_full in
+    let deadlock : (refusal.number == 1213) ≡ false = ap (λ n. n == 1213) (same_number refusal.number code same) ∙ not_deadlock in
+    words_own session number refusal.words _
+    (sym (if_other _ _ _ full ∙ if_other _ _ _ deadlock) ∙ is)
+
+among_at : (session number : ℕ) (found : Bool) (xs ys : List ℕ) → (found ≡ true → is_taken session number xs ≡ false) → is_taken session number ys ≡ false →
+    is_taken session number (if found then xs else ys) ≡ false
+among_at session number true xs ys first later = first refl
+among_at session number false xs ys first later = later
+
+among_own : (session number code : ℕ) (at : ℤ) (these : List Refusal) → (code == 1114) ≡ false → (code == 1213) ≡ false → list_all own_or_given these ≡ true →
+    is_taken session number (text_among these code at) ≡ false
+among_own session number code at [] not_full not_deadlock is = nothing_own session number
+among_own session number code at (refusal ∷ others) not_full not_deadlock is =
+    let parts = and_parts (own_or_given refusal) (list_all own_or_given others) is in
+    among_at session number (refusal.number == code) (text_of refusal at) (text_among others code at)
+    (λ same. refusal_own session number code at refusal not_full not_deadlock same parts.0)
+    (among_own session number code at others not_full not_deadlock parts.1)
+
 pub own_not_given : (session number : ℕ) (r : Reply) → IsOwn r → is_given (answer_with session number (reply_text r)) ≡ false
-own_not_given session number reply.Ok own = (fixed_own session number).0
+own_not_given session number reply.Ok own = fixed_own session number
 own_not_given session number (reply.Count n) own = count_own session number n
 own_not_given session number (reply.Rows rows) own = counted_own session number (length rows) (flat_map (λ row. 32 ∷ row_text row) rows)
-own_not_given session number (reply.Err code at) own =
-    chosen session number (code == 1062) _ _ (duplicate_own session number at)
-    (passed_over session number (code == 1114) full_text _ own.0
-    (chosen session number (code == 1146) _ _ (fixed_own session number).1
-    (passed_over session number (code == 1213) deadlock_text not_built_text own.1 (fixed_own session number).2)))
+own_not_given session number (reply.Err code at) own = among_own session number code at refusals own.0 own.1 all_own_or_given
 own_not_given session number reply.End own = absurd own

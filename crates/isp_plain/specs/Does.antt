@@ -1,38 +1,23 @@
 -- What a statement answers and leaves on plain tables, as the MySQL 8.0 manual has these statements.
-use Rattle.std.specs.Prelude.{ℕ, ℤ, pos, Bool, false, List, [], ◌∷◌, ◌++◌, length, map, filter, slice_get, slice_set, Some, None, Option}
-use Rattle.std.specs.List.{list_all, filter_map, position}
-use Rattle.std.specs.Option.{option_map}
+use Rattle.std.specs.Prelude.{ℕ, ℤ, pos, Bool, not, nat_lt, ◌&&◌, List, [], ◌∷◌, ◌++◌, length, map, filter, slice_get, slice_set, if◌then◌else◌, Some, None, Option}
+use Rattle.std.specs.List.{fold, filter_map, list_any, position}
 use Rattle.std.specs.Str.{bytes_eq}
 use Rattle.std.specs.Map.{values_of}
-use Rattle.isp_mbr.specs.Predicates.{satisfies}
-use Rattle.isp_mbr.specs.declared.Predicate.{Predicate}
 use Rattle.isp_plain.specs.declared.value.Row.{Row}
 use Rattle.isp_plain.specs.declared.value.Schema.{Schema}
 use Rattle.isp_plain.specs.declared.value.Value.{Value}
-use Rattle.isp_plain.specs.declared.value.Value.TheVariants.{Int, Geo}
-use Rattle.isp_plain.specs.declared.statement.Atom.{Atom}
-use Rattle.isp_plain.specs.declared.statement.Atom.TheVariants as atom
+use Rattle.isp_plain.specs.declared.statement.Assign.{Assign}
 use Rattle.isp_plain.specs.declared.statement.Condition.{Condition}
 use Rattle.isp_plain.specs.declared.statement.Reply.{Reply}
 use Rattle.isp_plain.specs.declared.statement.Reply.TheVariants as reply
 use Rattle.isp_plain.specs.declared.statement.Statement.{Statement}
-use Rattle.isp_plain.specs.declared.statement.Statement.TheVariants.{Create, Insert, Select, Begin, Commit, Rollback, Refused}
+use Rattle.isp_plain.specs.declared.statement.Statement.TheVariants.{Create, Insert, Select, Update, Delete, Begin, Commit, Rollback, Refused}
+use Rattle.isp_plain.specs.Conditions.{holds}
 use Rattle.isp_plain.specs.Entries.{first_duplicate, with_rows}
+use Rattle.isp_plain.specs.RowBytes.{row_bytes, row_limit}
 use Rattle.isp_plain.specs.Tables.{Table}
-use Rattle.isp_plain.specs.Values.{box_of}
 
--- the box of a geometry satisfies the predicate; no other value does
-abbrev pub value_satisfies : Predicate → Option Value → Bool
-value_satisfies p (Some (Geo geometry)) = satisfies p (box_of geometry)
-value_satisfies p (Some (Int number)) = false
-value_satisfies p None = false
-
-abbrev pub atom_holds : Row → Atom → Bool
-atom_holds row (atom.Box column p) = value_satisfies p (slice_get row.values column)
-
--- every test of the condition is true of the row
-abbrev pub holds : Condition → Row → Bool
-holds condition row = list_all (atom_holds row) condition.atoms
+-- ---- the rows of a table
 
 -- the row's values in the named columns, in their order
 abbrev pub cut : List ℕ → Row → Row
@@ -41,6 +26,63 @@ cut columns row = record { values = filter_map (slice_get row.values) columns }
 -- the rows that hold, rising by key, cut to the named columns
 abbrev pub selected : List Row → List ℕ → Condition → List Row
 selected rows columns condition = map (cut columns) (filter (holds condition) rows)
+
+-- the new value in its column, and every other as it was
+abbrev pub with_set : List Value → Assign → List Value
+with_set values set = slice_set values set.column set.v
+
+-- the row with all of the new values; of two for one column the last one counts
+abbrev pub with_sets : List Assign → Row → Row
+with_sets sets row = record { values = fold with_set row.values sets }
+
+-- the row after UPDATE: with the new values where the condition holds of it
+abbrev pub updated : List Assign → Condition → Row → Row
+updated sets condition row = if holds condition row then with_sets sets row else row
+
+-- the condition holds of the row, and with the new values it would have more row bytes than a row may have
+abbrev pub outgrows : Schema → List Assign → Condition → Row → Bool
+outgrows schema sets condition row = holds condition row && nat_lt row_limit (row_bytes schema (with_sets sets row))
+
+-- how many rows hold
+abbrev pub count_of : Condition → List Row → ℕ
+count_of condition rows = length (filter (holds condition) rows)
+
+-- ---- one table
+
+-- an answer, and the table after it
+pub record Change : Type 0 where
+  pub reply : Reply
+  pub table : Table
+
+-- a refusal, which leaves the table
+abbrev pub refused : ℕ → ℤ → Table → Change
+refused number at table = record { reply = reply.Err number at; table = table }
+
+-- all of the rows where no key stands twice, else none
+abbrev pub insert_or : List Row → Table → Option ℤ → Change
+insert_or rows table None = record { reply = reply.Count (length rows); table = record table { rows = with_rows table.rows rows } }
+insert_or rows table (Some key) = refused 1062 key table
+
+abbrev pub insert : List Row → Table → Change
+insert rows table = insert_or rows table (first_duplicate table.rows rows)
+
+-- every row that holds gets its new values, or none where one of them would get too large
+abbrev pub update : List Assign → Condition → Table → Change
+update sets condition table =
+    if list_any (outgrows table.schema sets condition) (values_of table.rows) then refused 9011 (pos 0) table
+    else record {
+      reply = reply.Count (count_of condition (values_of table.rows));
+      table = record table { rows = map (λ e. (e.0, updated sets condition e.1)) table.rows };
+    }
+
+-- every row that holds leaves
+abbrev pub delete : Condition → Table → Change
+delete condition table = record {
+  reply = reply.Count (count_of condition (values_of table.rows));
+  table = record table { rows = filter (λ e. not (holds condition e.1)) table.rows };
+}
+
+-- ---- the tables
 
 -- an answer, and the tables after it
 pub record Outcome : Type 0 where
@@ -65,28 +107,15 @@ table_at tables None = None
 abbrev pub table_named : List Table → List ℕ → Option Table
 table_named tables name = table_at tables (place_of tables name)
 
--- the name and the columns of the table at a place
-abbrev pub definition_at : List Table → ℕ → Option (List ℕ × Schema)
-definition_at tables place = option_map (λ table. (table.name, table.schema)) (slice_get tables place)
+-- the table at a place changes so, and every other stays
+abbrev pub changed_at : List Table → ℕ → (Table → Change) → Option Table → Outcome
+changed_at tables place change (Some table) =
+    record { reply = (change table).reply; tables = slice_set tables place (change table).table }
+changed_at tables place change None = answered tables no_such_table
 
--- all of the rows where no key stands twice, else none
-abbrev pub insert_reply : List Row → Option ℤ → Reply
-insert_reply rows None = reply.Count (length rows)
-insert_reply rows (Some key) = reply.Err 1062 key
-
-abbrev pub insert_rows : Table → List Row → Option ℤ → Table
-insert_rows table rows None = record table { rows = with_rows table.rows rows }
-insert_rows table rows (Some key) = table
-
-abbrev pub insert_at : List Table → ℕ → List Row → Option Table → Outcome
-insert_at tables place rows None = answered tables no_such_table
-insert_at tables place rows (Some table) =
-    let duplicate = first_duplicate table.rows rows
-    in answered (slice_set tables place (insert_rows table rows duplicate)) (insert_reply rows duplicate)
-
-abbrev pub insert_in : List Table → Option ℕ → List Row → Outcome
-insert_in tables None rows = answered tables no_such_table
-insert_in tables (Some place) rows = insert_at tables place rows (slice_get tables place)
+abbrev pub changed_in : List Table → Option ℕ → (Table → Change) → Outcome
+changed_in tables (Some place) change = changed_at tables place change (slice_get tables place)
+changed_in tables None change = answered tables no_such_table
 
 abbrev pub select_reply : Option Table → List ℕ → Condition → Reply
 select_reply None columns condition = no_such_table
@@ -95,8 +124,10 @@ select_reply (Some table) columns condition = reply.Rows (selected (values_of ta
 -- what the statement answers and leaves: a refused one leaves the tables
 abbrev pub does : List Table → Statement → Outcome
 does tables (Create name schema) = answered (tables ++ record { name = name; schema = schema; rows = [] } ∷ []) reply.Ok
-does tables (Insert name rows) = insert_in tables (place_of tables name) rows
+does tables (Insert name rows) = changed_in tables (place_of tables name) (insert rows)
 does tables (Select name columns condition) = answered tables (select_reply (table_named tables name) columns condition)
+does tables (Update name sets condition) = changed_in tables (place_of tables name) (update sets condition)
+does tables (Delete name condition) = changed_in tables (place_of tables name) (delete condition)
 does tables Begin = answered tables reply.Ok
 does tables Commit = answered tables reply.Ok
 does tables Rollback = answered tables reply.Ok

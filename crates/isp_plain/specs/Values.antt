@@ -1,20 +1,25 @@
 -- The box of a geometry, as the MySQL 8.0 manual has minimum bounding rectangles, and the key of a row.
-use Rattle.std.specs.Prelude.{ℤ, pos, List, [], ◌∷◌}
+use Rattle.std.specs.Prelude.{ℤ, pos, List, ◌∷◌}
+use Rattle.std.specs.Option.{unwrap_or}
 use Rattle.isp_mbr.specs.Corners.{Corners}
-use Rattle.isp_plain.specs.declared.value.Geometry.{Geometry}
-use Rattle.isp_plain.specs.declared.value.Geometry.TheVariants as geometry
+use Rattle.isp_geom.specs.Bounds.{box_round, points_of}
+use Rattle.isp_geom.specs.declared.form.Form.{Form}
 use Rattle.isp_plain.specs.declared.value.Row.{Row}
 use Rattle.isp_plain.specs.declared.value.Value.{Value}
-use Rattle.isp_plain.specs.declared.value.Value.TheVariants.{Int, Geo}
+use Rattle.isp_plain.specs.declared.value.Value.TheVariants.{Int}
 
-abbrev pub box_of : Geometry → Corners
-box_of (geometry.Point p) = record { x1 = p.x; y1 = p.y; x2 = p.x; y2 = p.y }
+-- what a form without points has in place of a box; no geometry is one
+abbrev pub no_box : Corners
+no_box = record { x1 = pos 0; y1 = pos 0; x2 = pos 0; y2 = pos 0 }
+
+-- the least box round all points of a geometry
+abbrev pub box_of : Form → Corners
+box_of form = unwrap_or (box_round (points_of form)) no_box
 
 -- the number that stands first
 abbrev pub first_number : List Value → ℤ
 first_number (Int key ∷ others) = key
-first_number (Geo g ∷ others) = pos 0
-first_number [] = pos 0
+first_number _ = pos 0
 
 abbrev pub key_of : Row → ℤ
 key_of row = first_number row.values

@@ -1,7 +1,7 @@
 //! The rows of one table in memory, by their keys.
 
 ghost use Rattle.std.specs.Prelude.{◌≡◌, ◌<◌, ◌≤◌, IfOk, OnOk, OnErr, MatchResult, true, false, if◌then◌else◌, IsNone, IsSome, length, Some, None};
-ghost use Rattle.isp_plain.specs.Entries.{has_key, with_row, with_rows, without_row, without_rows, first_duplicate};
+ghost use Rattle.isp_plain.specs.Entries.{has_key, with_row, with_rows, with_value, without_row, without_rows, first_duplicate};
 ghost use Rattle.isp_plain.specs.Values.{key_of};
 
 use crate::{Row, Value};
@@ -36,6 +36,15 @@ fn put(entries: &mut Entries, key: i64, row: Row) -> Result<(), AllocError>
 {
     entries.insert(key, row)?;
     Ok(())
+}
+
+/// Puts the row in the place of the one at the key, if there is one. It takes no memory.
+pub fn replace(entries: &mut Entries, key: i64, row: Row)
+    ensures { entries.new.entries ≡ with_value entries.old.entries key row }
+{
+    if let Some(place) = entries.get_mut(&key) {
+        *place = row;
+    }
 }
 
 fn remove(entries: &mut Entries, key: i64)

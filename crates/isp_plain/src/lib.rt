@@ -6,17 +6,24 @@
 //! such tables, in memory.
 #![tactic(auto)]
 
+mod condition;
+mod defined;
 mod entries;
-mod held;
 mod laws;
 mod plain;
 mod script;
 mod select;
+mod size;
 mod statement;
+mod table;
+mod update;
 mod value;
 
+pub use defined::Defined;
 pub use laws::law_spelled_once;
 pub use plain::Plain;
 pub use script::{Place, Script, Session, Sessions, Texts, Word, Words};
-pub use statement::{Atom, Atoms, Condition, Indices, Reply, Rows, Statement};
-pub use value::{Column, Columns, Geometry, Kind, Point, Row, Schema, Value, Values, box_of};
+pub use size::row_size;
+pub use statement::{Assign, Atom, Atoms, Condition, Indices, Op, Reply, Rows, Sets, Statement};
+pub use table::PlainTable;
+pub use value::{Column, Columns, Kind, Row, Schema, Value, Values, box_of};

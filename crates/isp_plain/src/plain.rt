@@ -1,11 +1,10 @@
 //! Plain tables in memory.
 
 ghost use Rattle.std.specs.Prelude.{◌≡◌, [], ◌∷◌, ◌++◌, ◌<◌, length, IfOk, OnOk, OnErr};
-ghost use Rattle.std.specs.Option.{option_map};
-ghost use Rattle.isp_plain.specs.Does.{definition_at, does, insert_in, place_of, select_reply, table_named, no_such_table};
+ghost use Rattle.isp_plain.specs.Does.{changed_in, delete, does, insert, no_such_table, place_of, select_reply, table_named, update};
 
-use crate::held::Held;
-use crate::{Condition, Reply, Row, Schema, Statement};
+use crate::table::PlainTable;
+use crate::{Assign, Condition, Reply, Row, Schema, Statement};
 use isp_mbr::{Duplicate, Name};
 use std::alloc::{AllocError, Global};
 use std::marker::Model;
@@ -14,14 +13,18 @@ use std::marker::Model;
 #[derive(Drop)]
 pub struct Plain {
     alloc: Global,
-    tables: Vec<Held>,
+    tables: Vec<PlainTable>,
 }
 
 impl Model for Plain {
     ghost use Rattle.std.specs.Prelude.{List};
+    ghost use Rattle.isp_geom.specs.contracts.geometry.Geometry as e;
     ghost use Rattle.isp_plain.specs.Tables.{Table};
+    ghost use Rattle.std.specs.Coded.{codes};
 
     ghost Value = { List Table };
+
+    ghost coded = { Prim.hlevel (codes, e.the_row.coded) };
 
     ghost view = { λ p. p.tables.items };
 }
@@ -35,6 +38,13 @@ impl Plain {
             alloc,
             tables: Vec::new(alloc),
         }
+    }
+
+    /// The tables, in the order in which they were added.
+    pub fn tables(&self) -> &[PlainTable]
+        ensures { result.now ≡ self.now }
+    {
+        &self.tables
     }
 
     /// What the statement answers on these tables, which become what it leaves. The error is want of memory, and leaves
@@ -51,6 +61,8 @@ impl Plain {
             }
             Statement::Insert { table, rows } => self.insert(table, rows.as_slice()),
             Statement::Select { table, columns, w } => self.select(table, columns.as_slice(), w),
+            Statement::Update { table, sets, w } => self.update(table, sets.as_slice(), w),
+            Statement::Delete { table, w } => Ok(self.delete(table, w)),
             Statement::Begin | Statement::Commit | Statement::Rollback => Ok(Reply::Ok),
             Statement::Refused { number, at } => Ok(refused(*number, *at)),
         }
@@ -61,19 +73,9 @@ impl Plain {
         ensures ok { OnOk result (self.new ≡ self.old ++ record { name = name.now; schema = schema.now; rows = [] } ∷ []) }
         ensures err { OnErr result (self.new ≡ self.old) }
     {
-        let table = Held::new(self.alloc, name.copy(self.alloc)?, schema.copy(self.alloc)?);
+        let table = PlainTable::new(self.alloc, name.copy(self.alloc)?, schema.copy(self.alloc)?);
         self.tables.push(table)?;
         Ok(())
-    }
-
-    /// The name and the columns of the table at a place, counted from 0 in the order in which they were added.
-    pub fn definition(&self, place: usize) -> Option<(&Name, &Schema)>
-        ensures { option_map (λ d. (d.0.now, d.1.now)) result ≡ definition_at self.now place }
-    {
-        match self.tables.get(place) {
-            Some(table) => Some(table.definition()),
-            None => None,
-        }
     }
 
     // The place of the table of that name.
@@ -84,8 +86,8 @@ impl Plain {
     }
 
     fn insert(&mut self, table: &Name, rows: &[Row]) -> Result<Reply, AllocError>
-        ensures reply { IfOk result (λ reply. reply ≡ (insert_in self.old (place_of self.old table.now) rows.now).reply) }
-        ensures tables { OnOk result (self.new ≡ (insert_in self.old (place_of self.old table.now) rows.now).tables) }
+        ensures reply { IfOk result (λ reply. reply ≡ (changed_in self.old (place_of self.old table.now) (insert rows.now)).reply) }
+        ensures tables { OnOk result (self.new ≡ (changed_in self.old (place_of self.old table.now) (insert rows.now)).tables) }
         ensures err { OnErr result (self.new ≡ self.old) }
     {
         match self.place_of(table) {
@@ -96,12 +98,57 @@ impl Plain {
 
     fn insert_at(&mut self, place: usize, rows: &[Row]) -> Result<Reply, AllocError>
         requires { place < length self.old }
-        ensures reply { IfOk result (λ reply. reply ≡ (insert_in self.old (Some place) rows.now).reply) }
-        ensures tables { OnOk result (self.new ≡ (insert_in self.old (Some place) rows.now).tables) }
+        ensures reply { IfOk result (λ reply. reply ≡ (changed_in self.old (Some place) (insert rows.now)).reply) }
+        ensures tables { OnOk result (self.new ≡ (changed_in self.old (Some place) (insert rows.now)).tables) }
         ensures err { OnErr result (self.new ≡ self.old) }
     {
         let table = &mut self.tables[place];
         table.insert(self.alloc, rows)
+    }
+
+    fn update(&mut self, table: &Name, sets: &[Assign], w: &Condition) -> Result<Reply, AllocError>
+        ensures reply { IfOk result (λ reply. reply ≡ (changed_in self.old (place_of self.old table.now) (update sets.now w.now)).reply) }
+        ensures tables { OnOk result (self.new ≡ (changed_in self.old (place_of self.old table.now) (update sets.now w.now)).tables) }
+        ensures err { OnErr result (self.new ≡ self.old) }
+    {
+        match self.place_of(table) {
+            Some(place) => self.update_at(place, sets, w),
+            None => Ok(no_such_table()),
+        }
+    }
+
+    fn update_at(
+        &mut self,
+        place: usize,
+        sets: &[Assign],
+        w: &Condition,
+    ) -> Result<Reply, AllocError>
+        requires { place < length self.old }
+        ensures reply { IfOk result (λ reply. reply ≡ (changed_in self.old (Some place) (update sets.now w.now)).reply) }
+        ensures tables { OnOk result (self.new ≡ (changed_in self.old (Some place) (update sets.now w.now)).tables) }
+        ensures err { OnErr result (self.new ≡ self.old) }
+    {
+        let table = &mut self.tables[place];
+        table.update(self.alloc, sets, w)
+    }
+
+    fn delete(&mut self, table: &Name, w: &Condition) -> Reply
+        ensures reply { result ≡ (changed_in self.old (place_of self.old table.now) (delete w.now)).reply }
+        ensures tables { self.new ≡ (changed_in self.old (place_of self.old table.now) (delete w.now)).tables }
+    {
+        match self.place_of(table) {
+            Some(place) => self.delete_at(place, w),
+            None => no_such_table(),
+        }
+    }
+
+    fn delete_at(&mut self, place: usize, w: &Condition) -> Reply
+        requires { place < length self.old }
+        ensures reply { result ≡ (changed_in self.old (Some place) (delete w.now)).reply }
+        ensures tables { self.new ≡ (changed_in self.old (Some place) (delete w.now)).tables }
+    {
+        let table = &mut self.tables[place];
+        table.delete(w)
     }
 
     fn select(&self, table: &Name, columns: &[u32], w: &Condition) -> Result<Reply, AllocError>

@@ -1,8 +1,9 @@
 //! What is asked of tables, and what is answered.
 
-use crate::{Row, Schema};
-use isp_mbr::{Name, Predicate};
+use crate::{Row, Schema, Value};
+use isp_mbr::{Duplicate, Name, Predicate};
 use sqlite_items::Items;
+use std::alloc::{AllocError, Global};
 
 /// Rows, in the order in which they are written or shown.
 pub type Rows = Items<Row>;
@@ -10,9 +11,22 @@ pub type Rows = Items<Row>;
 /// Columns by their places in the schema, from 0.
 pub type Indices = Items<u32>;
 
-/// One test of a condition: that the box of the column's geometry satisfies the predicate.
+/// How a plain test compares a row's value with a number or a text (the MySQL 8.0 manual on comparison operators).
 #[derive(Clone, Copy, Debug, PartialEq, Eq)]
+pub enum Op {
+    Eq,
+    Ne,
+    Lt,
+    Le,
+    Gt,
+    Ge,
+}
+
+/// One test of a condition: that the column's value compares so with the value, numbers as numbers and texts by their
+/// bytes; or that the box of the column's geometry satisfies the predicate.
+#[derive(Debug, Drop)]
 pub enum Atom {
+    Cmp { column: u32, op: Op, v: Value },
     Box { column: u32, p: Predicate },
 }
 
@@ -24,6 +38,16 @@ pub type Atoms = Items<Atom>;
 pub struct Condition {
     pub atoms: Atoms,
 }
+
+/// What UPDATE sets: the column's new value.
+#[derive(Debug, Drop)]
+pub struct Assign {
+    pub column: u32,
+    pub v: Value,
+}
+
+/// What UPDATE sets, in the order of the text. Where a column is set twice the last one counts.
+pub type Sets = Items<Assign>;
 
 /// A statement, bound to its table's columns. `Refused` is one that was refused without a look at any row, with the
 /// number of the refusal and the key or position that it tells, else 0.
@@ -40,6 +64,15 @@ pub enum Statement {
     Select {
         table: Name,
         columns: Indices,
+        w: Condition,
+    },
+    Update {
+        table: Name,
+        sets: Sets,
+        w: Condition,
+    },
+    Delete {
+        table: Name,
         w: Condition,
     },
     Begin,
@@ -60,4 +93,37 @@ pub enum Reply {
     Rows(Rows),
     Err { number: u32, at: i64 },
     End,
+}
+
+impl Duplicate for Atom {
+    fn copy(&self, alloc: Global) -> Result<Atom, AllocError> {
+        match self {
+            Atom::Cmp { column, op, v } => Ok(Atom::Cmp {
+                column: *column,
+                op: *op,
+                v: v.copy(alloc)?,
+            }),
+            Atom::Box { column, p } => Ok(Atom::Box {
+                column: *column,
+                p: *p,
+            }),
+        }
+    }
+}
+
+impl Duplicate for Condition {
+    fn copy(&self, alloc: Global) -> Result<Condition, AllocError> {
+        let atoms = self.atoms.copy(alloc)?;
+        Ok(Condition { atoms })
+    }
+}
+
+impl Duplicate for Assign {
+    fn copy(&self, alloc: Global) -> Result<Assign, AllocError> {
+        let v = self.v.copy(alloc)?;
+        Ok(Assign {
+            column: self.column,
+            v,
+        })
+    }
 }

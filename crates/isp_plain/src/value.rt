@@ -3,14 +3,17 @@
 ghost use Rattle.std.specs.Prelude.{◌≡◌};
 ghost use Rattle.isp_plain.specs.Values.{box_of};
 
-use isp_mbr::{Box4, Duplicate, Name};
+use isp_geom::Geometry;
+use isp_mbr::{Box4, Bytes, Duplicate, Name};
 use sqlite_items::Items;
 use std::alloc::{AllocError, Global};
 
-/// What a column holds: whole numbers (`BIGINT`), or geometries of SRID 0 (`GEOMETRY`).
+/// What a column holds: whole numbers (`BIGINT`), texts of at most so many bytes (`VARCHAR`), or geometries of SRID 0
+/// (`GEOMETRY`).
 #[derive(Clone, Copy, Debug, PartialEq, Eq)]
 pub enum Kind {
     BigInt,
+    VarChar(u16),
     Geo,
 }
 
@@ -31,23 +34,11 @@ pub struct Schema {
     pub columns: Columns,
 }
 
-/// A point of whole coordinates.
-#[derive(Clone, Copy, Debug, PartialEq, Eq)]
-pub struct Point {
-    pub x: i32,
-    pub y: i32,
-}
-
-/// A geometry: for now a point alone.
-#[derive(Clone, Copy, Debug, PartialEq, Eq)]
-pub enum Geometry {
-    Point(Point),
-}
-
 /// What a row has in one column.
 #[derive(Debug, Drop)]
 pub enum Value {
     Int(i64),
+    Text(Bytes),
     Geo(Geometry),
 }
 
@@ -58,27 +49,6 @@ pub type Values = Items<Value>;
 #[derive(Debug, Drop)]
 pub struct Row {
     pub values: Values,
-}
-
-/// The least box round a geometry: its minimum bounding rectangle (the MySQL 8.0 manual).
-pub fn box_of(geometry: &Geometry) -> Box4
-    ensures { result ≡ box_of geometry.now }
-{
-    match geometry {
-        Geometry::Point(point) => box_at(point.x, point.y),
-    }
-}
-
-// The box of one point.
-fn box_at(x: i32, y: i32) -> Box4
-    ensures { result ≡ record { x1 = x; y1 = y; x2 = x; y2 = y } }
-{
-    Box4 {
-        x1: x,
-        y1: y,
-        x2: x,
-        y2: y,
-    }
 }
 
 impl Duplicate for Column {
@@ -100,10 +70,11 @@ impl Duplicate for Schema {
 }
 
 impl Duplicate for Value {
-    fn copy(&self, _alloc: Global) -> Result<Value, AllocError> {
+    fn copy(&self, alloc: Global) -> Result<Value, AllocError> {
         match self {
             Value::Int(number) => Ok(Value::Int(*number)),
-            Value::Geo(geometry) => Ok(Value::Geo(*geometry)),
+            Value::Text(text) => Ok(Value::Text(text.copy(alloc)?)),
+            Value::Geo(geometry) => Ok(Value::Geo(geometry.copy(alloc)?)),
         }
     }
 }
@@ -113,4 +84,11 @@ impl Duplicate for Row {
         let values = self.values.copy(alloc)?;
         Ok(Row { values })
     }
+}
+
+/// The least box round all points of a geometry: its minimum bounding rectangle (the MySQL 8.0 manual).
+pub fn box_of(geometry: &Geometry) -> Box4
+    ensures { result ≡ box_of geometry.now }
+{
+    isp_geom::box_of(geometry)
 }

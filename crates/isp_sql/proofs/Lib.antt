@@ -1,6 +1,2 @@
-pub mod LineLaws
-pub mod NarrowLaws
-pub mod NumberLaws
-pub mod PlaceLaws
-pub mod RowLaws
-pub mod SessionLaws
+pub mod ScanLaws
+pub mod FollowLaws

@@ -1,6 +1,5 @@
-pub mod Lines
-pub mod Meaning
-pub mod Phrases
-pub mod Points
+pub mod Following
 pub mod Reading
+pub mod Scanning
 pub mod Tokens
+pub mod Words

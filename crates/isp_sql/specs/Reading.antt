@@ -1,39 +1,397 @@
--- Which lines are a script, read one after another: `setup` and its statements, at most one session and its statements,
--- `schedule` and `end`. No word of a schedule is built yet.
-use Rattle.std.specs.Prelude.{ℕ, false, nat_lt, List, [], ◌∷◌, ◌++◌, length, take, if◌then◌else◌, Option, Some, None}
-use Rattle.isp_plain.specs.declared.script.Script.{Script}
-use Rattle.isp_sql.specs.Lines.{line_of, lines_of}
-use Rattle.isp_sql.specs.declared.lines.Line.{Line}
-use Rattle.isp_sql.specs.declared.lines.Line.TheVariants as line
-use Rattle.isp_sql.specs.declared.script.Reading.{Reading}
-use Rattle.isp_sql.specs.declared.script.Reading.TheVariants.{Nothing, InSetup, InSession, Scheduled, Ended, Failed}
+-- Reading a statement from left to right: a value and the tokens behind it, or nothing where the tokens are not in the
+-- grammar.
+use Rattle.std.specs.Prelude.{◌≡◌, ℕ, zero, suc, Bool, true, false, List, [], ◌∷◌, ◌++◌, length, drop, Result, Ok, Err, Option, Some, None, if◌then◌else◌}
+use Rattle.std.specs.Option.{option_and_then}
+use Rattle.std.specs.Str.{bytes_eq}
+use Rattle.isp_mbr.specs.declared.Test.{Test}
+use Rattle.isp_plain.specs.declared.statement.Op.{Op}
+use Rattle.isp_plain.specs.declared.statement.Op.TheVariants as op
+use Rattle.isp_sql.specs.declared.error.SqlError.{SqlError}
+use Rattle.isp_sql.specs.declared.error.SqlError.TheVariants.{Syntax, OutOfMemory}
+use Rattle.isp_sql.specs.declared.parsed.Literal.{Literal}
+use Rattle.isp_sql.specs.declared.parsed.Literal.TheVariants as literal
+use Rattle.isp_sql.specs.declared.parsed.Parsed.{Parsed}
+use Rattle.isp_sql.specs.declared.parsed.Parsed.TheVariants as parsed
+use Rattle.isp_sql.specs.declared.parsed.ParsedAtom.{ParsedAtom}
+use Rattle.isp_sql.specs.declared.parsed.ParsedAtom.TheVariants as atom
+use Rattle.isp_sql.specs.declared.parsed.ParsedColumn.{ParsedColumn}
+use Rattle.isp_sql.specs.declared.parsed.ParsedKind.{ParsedKind}
+use Rattle.isp_sql.specs.declared.parsed.ParsedKind.TheVariants as kind
+use Rattle.isp_sql.specs.declared.parsed.ParsedSet.{ParsedSet}
+use Rattle.isp_sql.specs.declared.token.Symbol.{Symbol}
+use Rattle.isp_sql.specs.declared.token.Symbol.TheVariants as symbol
+use Rattle.isp_sql.specs.declared.token.Token.{Token}
+use Rattle.isp_sql.specs.declared.token.Token.TheVariants as token
+use Rattle.isp_sql.specs.declared.words.Word.{Word}
+use Rattle.isp_sql.specs.declared.words.Word.TheVariants as word
+use Rattle.isp_sql.specs.declared.members.Going.{Going}
+use Rattle.isp_sql.specs.declared.members.Going.TheVariants as going
+use Rattle.isp_sql.specs.Scanning.{tokens_of}
+use Rattle.isp_sql.specs.Tokens.{is_symbol}
+use Rattle.isp_sql.specs.Words.{is_word, test_of, exchanged}
 
--- one line further; the bytes are the line's
-abbrev pub step : Reading → Line → List ℕ → Reading
-step reading line.Skipped bytes = reading
-step Nothing line.Setup bytes = InSetup []
-step (InSetup setup) (line.Statement n) bytes = InSetup (setup ++ take n bytes ∷ [])
-step (InSetup setup) (line.Session number) bytes = InSession setup number []
-step (InSetup setup) line.Schedule bytes = Scheduled setup []
-step (InSession setup number texts) (line.Statement n) bytes = InSession setup number (texts ++ take n bytes ∷ [])
-step (InSession setup number texts) line.Schedule bytes = Scheduled setup (record { number = number; texts = texts } ∷ [])
-step (Scheduled setup sessions) line.End bytes = Ended setup sessions
-step _ _ bytes = Failed
+-- a value and the tokens behind it, or nothing
+abbrev pub Outcome : Type 0 → Type 0
+Outcome X = Option (X × List Token)
 
--- all lines
-abbrev pub read_on : Reading → List (List ℕ) → Reading
-read_on reading [] = reading
-read_on reading (bytes ∷ lines) = read_on (step reading (line_of bytes) bytes) lines
+infixl 10 ◌>>=◌
+abbrev pub ◌>>=◌ : {A B : Type 0} → Option A → (A → Option B) → Option B
+(Some x) >>= f = f x
+None >>= f = None
 
--- the script that was read, where it has its end
-abbrev pub script_read : Reading → Option Script
-script_read (Ended setup sessions) = Some (record { setup = setup; sessions = sessions; words = []; stop = false })
-script_read Nothing = None
-script_read (InSetup setup) = None
-script_read (InSession setup number texts) = None
-script_read (Scheduled setup sessions) = None
-script_read Failed = None
+-- what a call answered, with the tokens that it left, is what reading gives
+abbrev pub Reads : {X : Type 0} → Result X SqlError → Outcome X → List Token → Type 0
+Reads (Ok x) read left = read ≡ Some (x, left)
+Reads (Err Syntax) read left = read ≡ None
+Reads (Err OutOfMemory) read left = Unit {0}
 
--- the script that the bytes are, of at most 16,777,216 bytes
-unfoldable pub script_of : List ℕ → Option Script
-script_of bytes = if nat_lt 16777216 (length bytes) then None else script_read (read_on Nothing (lines_of bytes))
+-- ---- what is next
+
+abbrev pub begins_word : Word → List Token → Bool
+begins_word wanted [] = false
+begins_word wanted (token.Word word ∷ tokens) = is_word word wanted
+begins_word wanted (token.Name _ ∷ tokens) = false
+begins_word wanted (token.Digits _ ∷ tokens) = false
+begins_word wanted (token.Text _ ∷ tokens) = false
+begins_word wanted (token.Op _ ∷ tokens) = false
+begins_word wanted (token.Symbol _ ∷ tokens) = false
+
+abbrev pub begins_symbol : Symbol → List Token → Bool
+begins_symbol wanted [] = false
+begins_symbol wanted (token.Symbol symbol ∷ tokens) = is_symbol symbol wanted
+begins_symbol wanted (token.Word _ ∷ tokens) = false
+begins_symbol wanted (token.Name _ ∷ tokens) = false
+begins_symbol wanted (token.Digits _ ∷ tokens) = false
+begins_symbol wanted (token.Text _ ∷ tokens) = false
+begins_symbol wanted (token.Op _ ∷ tokens) = false
+
+abbrev pub begins_name : List Token → Bool
+begins_name [] = false
+begins_name (token.Name _ ∷ tokens) = true
+begins_name (token.Word _ ∷ tokens) = false
+begins_name (token.Digits _ ∷ tokens) = false
+begins_name (token.Text _ ∷ tokens) = false
+begins_name (token.Op _ ∷ tokens) = false
+begins_name (token.Symbol _ ∷ tokens) = false
+
+abbrev pub begins_digits : List Token → Bool
+begins_digits [] = false
+begins_digits (token.Digits _ ∷ tokens) = true
+begins_digits (token.Word _ ∷ tokens) = false
+begins_digits (token.Name _ ∷ tokens) = false
+begins_digits (token.Text _ ∷ tokens) = false
+begins_digits (token.Op _ ∷ tokens) = false
+begins_digits (token.Symbol _ ∷ tokens) = false
+
+-- a comma and a name
+abbrev pub begins_column : List Token → Bool
+begins_column (token.Symbol symbol.Comma ∷ tokens) = begins_name tokens
+begins_column _ = false
+
+-- ---- one token
+
+abbrev pub taken : Bool → List Token → Outcome (Unit {0})
+taken fits tokens = if fits then Some (tt, drop 1 tokens) else None
+
+abbrev pub word_at : Word → List Token → Outcome (Unit {0})
+word_at wanted tokens = taken (begins_word wanted tokens) tokens
+
+abbrev pub symbol_at : Symbol → List Token → Outcome (Unit {0})
+symbol_at wanted tokens = taken (begins_symbol wanted tokens) tokens
+
+abbrev pub name_at : List Token → Outcome (List ℕ)
+name_at (token.Name name ∷ tokens) = Some (name, tokens)
+name_at _ = None
+
+abbrev pub text_at : List Token → Outcome (List ℕ)
+text_at (token.Text text ∷ tokens) = Some (text, tokens)
+text_at _ = None
+
+abbrev pub digits_at : List Token → Outcome (List ℕ)
+digits_at (token.Digits digits ∷ tokens) = Some (digits, tokens)
+digits_at _ = None
+
+-- the digit 0 alone
+abbrev pub zero_at : List Token → Outcome (Unit {0})
+zero_at (token.Digits digits ∷ tokens) = if bytes_eq digits (48 ∷ []) then Some (tt, tokens) else None
+zero_at _ = None
+
+abbrev pub op_at : List Token → Outcome Op
+op_at (token.Op op ∷ tokens) = Some (op, tokens)
+op_at _ = None
+
+abbrev pub equal_at : List Token → Outcome (Unit {0})
+equal_at (token.Op op.Eq ∷ tokens) = Some (tt, tokens)
+equal_at _ = None
+
+abbrev pub tested : Option Test → List Token → Outcome Test
+tested (Some test) tokens = Some (test, tokens)
+tested None tokens = None
+
+abbrev pub test_at : List Token → Outcome Test
+test_at (token.Word word ∷ tokens) = tested (test_of word) tokens
+test_at _ = None
+
+-- ---- lists
+
+-- whether one more member follows
+abbrev pub goes_on : Going → List Token → Bool
+goes_on going.Comma = begins_symbol symbol.Comma
+goes_on going.And = begins_word word.And
+goes_on going.Column = begins_column
+
+-- The members that follow, each behind one token. Each takes a token at least, so that there are no more than so many.
+abbrev pub others_at : {X : Type 0} → Going → (List Token → Outcome X) → ℕ → List Token → Outcome (List X)
+others_at going item zero tokens = Some ([], tokens)
+others_at going item (suc n) tokens =
+    if goes_on going tokens
+    then (item (drop 1 tokens) >>= λ first. others_at going item n first.1 >>= λ others. Some (first.0 ∷ others.0, others.1))
+    else Some ([], tokens)
+
+-- none or more members, each behind one token
+unfoldable pub more_at : {X : Type 0} → Going → (List Token → Outcome X) → List Token → Outcome (List X)
+more_at going item tokens = others_at going item (length tokens) tokens
+
+-- one or more members
+unfoldable pub list_at : {X : Type 0} → Going → (List Token → Outcome X) → List Token → Outcome (List X)
+list_at going item tokens = do
+  first ← item tokens
+  others ← more_at going item first.1
+  Some (first.0 ∷ others.0, others.1)
+
+-- ---- values
+
+unfoldable pub plain_at : List Token → Outcome Literal
+plain_at tokens =
+    if begins_symbol symbol.Minus tokens then (digits_at (drop 1 tokens) >>= λ digits. Some (literal.Number true digits.0, digits.1))
+    else if begins_digits tokens then (digits_at tokens >>= λ digits. Some (literal.Number false digits.0, digits.1))
+    else (text_at tokens >>= λ text. Some (literal.Text text.0, text.1))
+
+-- the second argument of ST_GeomFromText, where there is one
+unfoldable pub system_at : List Token → Outcome (Unit {0})
+system_at tokens = if begins_symbol symbol.Comma tokens then zero_at (drop 1 tokens) else Some (tt, tokens)
+
+unfoldable pub geometry_at : List Token → Outcome (List ℕ)
+geometry_at tokens = do
+  called ← word_at word.GeomFromText tokens
+  opened ← symbol_at symbol.Open called.1
+  text ← text_at opened.1
+  system ← system_at text.1
+  closed ← symbol_at symbol.Close system.1
+  Some (text.0, closed.1)
+
+unfoldable pub literal_at : List Token → Outcome Literal
+literal_at tokens =
+    if begins_word word.GeomFromText tokens then (geometry_at tokens >>= λ g. Some (literal.Wkt g.0, g.1)) else plain_at tokens
+
+-- ---- conditions
+
+unfoldable pub compared_at : List Token → Outcome ParsedAtom
+compared_at tokens = do
+  column ← name_at tokens
+  op ← op_at column.1
+  v ← plain_at op.1
+  Some (atom.Cmp column.0 op.0 v.0, v.1)
+
+-- the arguments of a test, the column first
+unfoldable pub column_first_at : Test → List Token → Outcome ParsedAtom
+column_first_at test tokens = do
+  column ← name_at tokens
+  comma ← symbol_at symbol.Comma column.1
+  g ← geometry_at comma.1
+  Some (atom.Box column.0 test g.0, g.1)
+
+-- the arguments of a test, the column second
+unfoldable pub column_second_at : Test → List Token → Outcome ParsedAtom
+column_second_at test tokens = do
+  g ← geometry_at tokens
+  comma ← symbol_at symbol.Comma g.1
+  column ← name_at comma.1
+  Some (atom.Box column.0 (exchanged test) g.0, column.1)
+
+unfoldable pub arguments_at : Test → List Token → Outcome ParsedAtom
+arguments_at test tokens = if begins_name tokens then column_first_at test tokens else column_second_at test tokens
+
+unfoldable pub spatial_at : List Token → Outcome ParsedAtom
+spatial_at tokens = do
+  test ← test_at tokens
+  opened ← symbol_at symbol.Open test.1
+  atom ← arguments_at test.0 opened.1
+  closed ← symbol_at symbol.Close atom.1
+  Some (atom.0, closed.1)
+
+unfoldable pub atom_at : List Token → Outcome ParsedAtom
+atom_at tokens = if begins_name tokens then compared_at tokens else spatial_at tokens
+
+-- the condition, where there is one
+unfoldable pub where_at : List Token → Outcome (List ParsedAtom)
+where_at tokens = if begins_word word.Where tokens then list_at going.And atom_at (drop 1 tokens) else Some ([], tokens)
+
+-- ---- definitions of tables
+
+-- NOT NULL, where it stands there
+unfoldable pub not_null_at : List Token → Outcome (Unit {0})
+not_null_at tokens = if begins_word word.Not tokens then word_at word.Null (drop 1 tokens) else Some (tt, tokens)
+
+unfoldable pub key_at : List Token → Outcome (List ℕ)
+key_at tokens = do
+  name ← name_at tokens
+  big ← word_at word.BigInt name.1
+  null ← not_null_at big.1
+  primary ← word_at word.Primary null.1
+  key ← word_at word.Key primary.1
+  Some (name.0, key.1)
+
+unfoldable pub big_int_at : List Token → Outcome ParsedKind
+big_int_at tokens = do
+  big ← word_at word.BigInt tokens
+  null ← not_null_at big.1
+  Some (kind.BigInt, null.1)
+
+unfoldable pub var_char_at : List Token → Outcome ParsedKind
+var_char_at tokens = do
+  var ← word_at word.VarChar tokens
+  opened ← symbol_at symbol.Open var.1
+  size ← digits_at opened.1
+  closed ← symbol_at symbol.Close size.1
+  null ← not_null_at closed.1
+  Some (kind.VarChar size.0, null.1)
+
+unfoldable pub geo_at : List Token → Outcome ParsedKind
+geo_at tokens = do
+  geometry ← word_at word.Geometry tokens
+  not ← word_at word.Not geometry.1
+  null ← word_at word.Null not.1
+  srid ← word_at word.Srid null.1
+  system ← zero_at srid.1
+  Some (kind.Geo, system.1)
+
+unfoldable pub kind_at : List Token → Outcome ParsedKind
+kind_at tokens =
+    if begins_word word.BigInt tokens then big_int_at tokens
+    else if begins_word word.VarChar tokens then var_char_at tokens
+    else geo_at tokens
+
+unfoldable pub column_at : List Token → Outcome ParsedColumn
+column_at tokens = do
+  name ← name_at tokens
+  kind ← kind_at name.1
+  Some (record { name = name.0; kind = kind.0 }, kind.1)
+
+unfoldable pub index_at : List Token → Outcome (List ℕ)
+index_at tokens = do
+  spatial ← word_at word.Spatial tokens
+  index ← word_at word.Index spatial.1
+  opened ← symbol_at symbol.Open index.1
+  name ← name_at opened.1
+  closed ← symbol_at symbol.Close name.1
+  Some (name.0, closed.1)
+
+-- what stands between the parentheses of a CREATE TABLE of this name
+unfoldable pub definition_at : List ℕ → List Token → Outcome Parsed
+definition_at name tokens = do
+  key ← key_at tokens
+  columns ← more_at going.Column column_at key.1
+  indexes ← more_at going.Comma index_at columns.1
+  Some (parsed.Create name key.0 columns.0 indexes.0, indexes.1)
+
+-- ---- statements, each behind its first word
+
+unfoldable pub create_at : List Token → Outcome Parsed
+create_at tokens = do
+  table ← word_at word.Table tokens
+  name ← name_at table.1
+  opened ← symbol_at symbol.Open name.1
+  created ← definition_at name.0 opened.1
+  closed ← symbol_at symbol.Close created.1
+  Some (created.0, closed.1)
+
+unfoldable pub row_at : List Token → Outcome (List Literal)
+row_at tokens = do
+  opened ← symbol_at symbol.Open tokens
+  values ← list_at going.Comma literal_at opened.1
+  closed ← symbol_at symbol.Close values.1
+  Some (values.0, closed.1)
+
+unfoldable pub insert_at : List Token → Outcome Parsed
+insert_at tokens = do
+  into ← word_at word.Into tokens
+  table ← name_at into.1
+  values ← word_at word.Values table.1
+  rows ← list_at going.Comma row_at values.1
+  Some (parsed.Insert table.0 rows.0, rows.1)
+
+-- the columns that are shown: * or their names
+unfoldable pub shown_at : List Token → Outcome (Option (List (List ℕ)))
+shown_at tokens =
+    if begins_symbol symbol.Star tokens then Some (None, drop 1 tokens)
+    else (list_at going.Comma name_at tokens >>= λ names. Some (Some names.0, names.1))
+
+unfoldable pub select_at : List Token → Outcome Parsed
+select_at tokens = do
+  columns ← shown_at tokens
+  from ← word_at word.From columns.1
+  table ← name_at from.1
+  w ← where_at table.1
+  Some (parsed.Select table.0 columns.0 w.0, w.1)
+
+unfoldable pub set_at : List Token → Outcome ParsedSet
+set_at tokens = do
+  column ← name_at tokens
+  equal ← equal_at column.1
+  v ← literal_at equal.1
+  Some (record { column = column.0; v = v.0 }, v.1)
+
+unfoldable pub update_at : List Token → Outcome Parsed
+update_at tokens = do
+  table ← name_at tokens
+  set ← word_at word.Set table.1
+  sets ← list_at going.Comma set_at set.1
+  w ← where_at sets.1
+  Some (parsed.Update table.0 sets.0 w.0, w.1)
+
+unfoldable pub delete_at : List Token → Outcome Parsed
+delete_at tokens = do
+  from ← word_at word.From tokens
+  table ← name_at from.1
+  w ← where_at table.1
+  Some (parsed.Delete table.0 w.0, w.1)
+
+-- BEGIN, START TRANSACTION, COMMIT or ROLLBACK
+unfoldable pub transaction_at : List Token → Outcome Parsed
+transaction_at tokens =
+    if begins_word word.Begin tokens then Some (parsed.Begin, drop 1 tokens)
+    else if begins_word word.Start tokens then (word_at word.Transaction (drop 1 tokens) >>= λ begun. Some (parsed.Begin, begun.1))
+    else if begins_word word.Commit tokens then Some (parsed.Commit, drop 1 tokens)
+    else (word_at word.Rollback tokens >>= λ back. Some (parsed.Rollback, back.1))
+
+unfoldable pub change_at : List Token → Outcome Parsed
+change_at tokens =
+    if begins_word word.Update tokens then update_at (drop 1 tokens)
+    else if begins_word word.Delete tokens then delete_at (drop 1 tokens)
+    else transaction_at tokens
+
+unfoldable pub statement_at : List Token → Outcome Parsed
+statement_at tokens =
+    if begins_word word.Create tokens then create_at (drop 1 tokens)
+    else if begins_word word.Insert tokens then insert_at (drop 1 tokens)
+    else if begins_word word.Select tokens then select_at (drop 1 tokens)
+    else change_at tokens
+
+-- nothing stands behind it
+abbrev pub alone : Parsed → List Token → Option Parsed
+alone p [] = Some p
+alone p (token ∷ tokens) = None
+
+unfoldable pub parsed_in : List Token → Option Parsed
+parsed_in tokens = statement_at tokens >>= λ p. alone p.0 p.1
+
+-- the statement that a text is, if it is one
+unfoldable pub parsed_of : List ℕ → Option Parsed
+parsed_of text = option_and_then parsed_in (tokens_of text)
+
+-- what was answered is this statement, or Syntax where there is none
+abbrev pub IsParsed : Result Parsed SqlError → Option Parsed → Type 0
+IsParsed (Ok p) read = read ≡ Some p
+IsParsed (Err Syntax) read = read ≡ None
+IsParsed (Err OutOfMemory) read = Unit {0}

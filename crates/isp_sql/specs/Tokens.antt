@@ -1,13 +1,21 @@
--- The tokens of a statement's text, read byte by byte; each token is as long as it can be. A text with a byte that is
--- in no token, or with a string that does not end, has none.
-use Rattle.std.specs.Prelude.{ℕ, Bool, not, ◌&&◌, ◌||◌, ◌==◌, nat_lt, List, [], ◌∷◌, ◌++◌, if◌then◌else◌, Option, Some, None}
+-- Which bytes are which tokens. Each token is as long as it can be; blanks (spaces and tabs) may stand before and behind
+-- every token, and no other byte does. They are needed only where the next token would make this one longer.
+use Rattle.std.specs.Prelude.{◌≡◌, ℕ, Bool, true, false, not, ◌&&◌, ◌||◌, ◌==◌, nat_lt, ◌⊎◌, List, [], ◌∷◌, ◌++◌, if◌then◌else◌, Option, Some, None}
 use Rattle.std.specs.Char.{is_ascii_digit, is_ascii_alphabetic}
-use Rattle.isp_sql.specs.Lines.{is_blank}
-use Rattle.isp_sql.specs.declared.token.Begun.{Begun}
-use Rattle.isp_sql.specs.declared.token.Begun.TheVariants as begun
-use Rattle.isp_sql.specs.declared.token.Lexed.{Lexed}
+use Rattle.std.specs.List.{list_all}
+use Rattle.isp_plain.specs.declared.statement.Op.{Op}
+use Rattle.isp_plain.specs.declared.statement.Op.TheVariants.{Eq, Ne, Lt, Le, Gt, Ge}
+use denote.Enum.Bare.{sameb}
+use Rattle.isp_sql.specs.contracts.token.Symbol.{the_type}
+use Rattle.isp_sql.specs.declared.token.Symbol.{Symbol}
+use Rattle.isp_sql.specs.declared.token.Symbol.TheVariants as symbol
 use Rattle.isp_sql.specs.declared.token.Token.{Token}
 use Rattle.isp_sql.specs.declared.token.Token.TheVariants as token
+use Rattle.isp_sql.specs.declared.words.Word.{Word}
+use Rattle.isp_sql.specs.Words.{word_of}
+
+abbrev pub is_blank : ℕ → Bool
+is_blank b = b == 32 || b == 9
 
 abbrev pub is_letter : ℕ → Bool
 is_letter b = is_ascii_alphabetic b || b == 95
@@ -15,57 +23,81 @@ is_letter b = is_ascii_alphabetic b || b == 95
 abbrev pub is_name_byte : ℕ → Bool
 is_name_byte b = is_letter b || is_ascii_digit b
 
--- ( ) , * -
-abbrev pub is_symbol : ℕ → Bool
-is_symbol b = b == 40 || b == 41 || b == 44 || b == 42 || b == 45
-
 -- no control byte but a tab stands in a string
 abbrev pub is_control : ℕ → Bool
 is_control b = (nat_lt b 32 && not (b == 9)) || b == 127
 
-abbrev pub lexed : List Token → Begun → Lexed
-lexed tokens begun = record { tokens = tokens; begun = begun }
+-- a letter or _, and letters, digits and _ behind it
+abbrev pub is_worded : List ℕ → Bool
+is_worded [] = false
+is_worded (b ∷ bytes) = is_letter b && list_all is_name_byte bytes
 
--- the byte begins a token, or stands between two
-abbrev pub begin : List Token → ℕ → Lexed
-begin tokens b =
-    if is_symbol b then lexed (tokens ++ token.Symbol b ∷ []) begun.Nothing
-    else if is_blank b then lexed tokens begun.Nothing
-    else if is_letter b then lexed tokens (begun.Word (b ∷ []))
-    else if is_ascii_digit b then lexed tokens (begun.Digits (b ∷ []))
-    else if b == 39 then lexed tokens (begun.Text [])
-    else lexed tokens begun.Failed
+-- one digit or more
+abbrev pub is_number : List ℕ → Bool
+is_number [] = false
+is_number (b ∷ bytes) = is_ascii_digit b && list_all is_ascii_digit bytes
 
--- one byte further
-abbrev pub step : List Token → Begun → ℕ → Lexed
-step tokens begun.Nothing b = begin tokens b
-step tokens (begun.Word word) b =
-    if is_name_byte b then lexed tokens (begun.Word (word ++ b ∷ [])) else begin (tokens ++ token.Word word ∷ []) b
-step tokens (begun.Digits digits) b =
-    if is_ascii_digit b then lexed tokens (begun.Digits (digits ++ b ∷ [])) else begin (tokens ++ token.Digits digits ∷ []) b
-step tokens (begun.Text text) b =
-    if b == 39 then lexed tokens (begun.Quote text)
-    else if is_control b then lexed tokens begun.Failed
-    else lexed tokens (begun.Text (text ++ b ∷ []))
-step tokens (begun.Quote text) b =
-    if b == 39 then lexed tokens (begun.Text (text ++ b ∷ [])) else begin (tokens ++ token.Text text ∷ []) b
-step tokens begun.Failed b = lexed tokens begun.Failed
+-- what is written for the bytes of a string: each quote twice
+abbrev pub quoted : List ℕ → List ℕ
+quoted [] = []
+quoted (b ∷ bytes) = if b == 39 then 39 ∷ 39 ∷ quoted bytes else b ∷ quoted bytes
 
-abbrev pub lex_on : Lexed → List ℕ → Lexed
-lex_on so_far [] = so_far
-lex_on so_far (b ∷ bytes) = lex_on (step so_far.tokens so_far.begun b) bytes
+abbrev pub IsOp : Op → List ℕ → Type 0
+IsOp Eq bytes = bytes ≡ 61 ∷ []
+IsOp Ne bytes = (bytes ≡ 60 ∷ 62 ∷ []) ⊎ (bytes ≡ 33 ∷ 61 ∷ [])
+IsOp Lt bytes = bytes ≡ 60 ∷ []
+IsOp Le bytes = bytes ≡ 60 ∷ 61 ∷ []
+IsOp Gt bytes = bytes ≡ 62 ∷ []
+IsOp Ge bytes = bytes ≡ 62 ∷ 61 ∷ []
 
--- the tokens, where the text ends here
-abbrev pub lex_end : List Token → Begun → Option (List Token)
-lex_end tokens begun.Nothing = Some tokens
-lex_end tokens (begun.Word word) = Some (tokens ++ token.Word word ∷ [])
-lex_end tokens (begun.Digits digits) = Some (tokens ++ token.Digits digits ∷ [])
-lex_end tokens (begun.Quote text) = Some (tokens ++ token.Text text ∷ [])
-lex_end tokens (begun.Text text) = None
-lex_end tokens begun.Failed = None
+unfoldable pub is_symbol : Symbol → Symbol → Bool
+is_symbol = sameb the_type
 
-abbrev pub lex_ended : Lexed → Option (List Token)
-lex_ended so_far = lex_end so_far.tokens so_far.begun
+abbrev pub symbol_byte : Symbol → ℕ
+symbol_byte symbol.Open = 40
+symbol_byte symbol.Close = 41
+symbol_byte symbol.Comma = 44
+symbol_byte symbol.Star = 42
+symbol_byte symbol.Minus = 45
 
-unfoldable pub tokens_of : List ℕ → Option (List Token)
-tokens_of text = lex_ended (lex_on (lexed [] begun.Nothing) text)
+-- the bytes are such a token
+abbrev pub Spells : Token → List ℕ → Type 0
+Spells (token.Word word) bytes = (is_worded bytes ≡ true) × (word_of bytes ≡ Some word)
+Spells (token.Name name) bytes = (is_worded bytes ≡ true) × (word_of bytes ≡ None) × (bytes ≡ name)
+Spells (token.Digits digits) bytes = (is_number bytes ≡ true) × (bytes ≡ digits)
+Spells (token.Text text) bytes = (bytes ≡ 39 ∷ (quoted text ++ 39 ∷ [])) × (list_all (λ b. not (is_control b)) text ≡ true)
+Spells (token.Op op) bytes = IsOp op bytes
+Spells (token.Symbol symbol) bytes = bytes ≡ symbol_byte symbol ∷ []
+
+-- the byte behind a token would make it longer
+abbrev pub lengthens : Token → ℕ → Bool
+lengthens (token.Word word) b = is_name_byte b
+lengthens (token.Name name) b = is_name_byte b
+lengthens (token.Digits digits) b = is_ascii_digit b
+lengthens (token.Text text) b = b == 39
+lengthens (token.Op Lt) b = b == 61 || b == 62
+lengthens (token.Op Gt) b = b == 61
+lengthens (token.Op _) b = false
+lengthens (token.Symbol symbol) b = false
+
+abbrev pub Ends : Token → List ℕ → Type 0
+Ends token [] = Unit {0}
+Ends token (b ∷ bytes) = lengthens token b ≡ false
+
+abbrev pub AreBlanks : List ℕ → Type 0
+AreBlanks bytes = list_all is_blank bytes ≡ true
+
+-- the text is these tokens, with blanks before, between and behind them
+abbrev pub AreTokens : List Token → List ℕ → Type 0
+AreTokens [] text = AreBlanks text
+AreTokens (token ∷ tokens) text =
+    (blanks : List ℕ) × (bytes : List ℕ) × (rest : List ℕ) × (text ≡ blanks ++ (bytes ++ rest))
+    × AreBlanks blanks × Spells token bytes × Ends token rest × AreTokens tokens rest
+
+-- a word of the grammar, or a name
+abbrev pub known : Option Word → List ℕ → Token
+known (Some word) bytes = token.Word word
+known None bytes = token.Name bytes
+
+abbrev pub worded : List ℕ → Token
+worded bytes = known (word_of bytes) bytes

@@ -1,17 +1,24 @@
-//! The narrow language that is built: which bytes are a script, and what the texts of its statements mean.
+//! The statements: which texts they are, and what each of them says.
 //!
-//! A script is read line by line (`lines`, `script`). A statement's text is cut into tokens (`token`), matched against
-//! the fixed words of the statements that are built (`phrase`, `point`), and bound to the table that is there
-//! (`meaning`).
+//! A text is cut into tokens (`token`, `words`), and the tokens are read from left to right (`cursor`, `members`): the
+//! values (`value`), conditions (`condition`) and definitions of tables (`definition`) of a statement (`statement`).
+//! What is read is the statement as it is written (`parsed`), not yet bound to any table.
 #![tactic(auto)]
 
-mod bytes;
-mod lines;
-mod meaning;
-mod phrase;
-mod point;
-mod script;
+mod condition;
+mod cursor;
+mod definition;
+mod error;
+mod members;
+mod parsed;
+mod statement;
 mod token;
+mod value;
+mod words;
 
-pub use meaning::bind;
-pub use script::script_of;
+pub use error::SqlError;
+pub use parsed::{
+    Literal, LiteralRows, Literals, Names, Parsed, ParsedAtom, ParsedAtoms, ParsedColumn,
+    ParsedColumns, ParsedKind, ParsedSet, ParsedSets,
+};
+pub use statement::parse;

@@ -1,0 +1,3 @@
+mod EachLaws
+mod NumberLaws
+mod RowLaws

@@ -1,0 +1,6 @@
+pub mod Binding
+pub mod Creating
+pub mod Literals
+pub mod Numbers
+pub mod Paths
+pub mod Refusals

@@ -1,0 +1,20 @@
+//! What a statement means on the tables that are there: its static refusals in their order, the statement on the
+//! columns' numbers, and the way to the rows of its condition.
+//!
+//! A statement as it is written is bound to the names and columns of tables (`binder`, with `creating` for a new table
+//! and `literal` for values). The first cause there is refuses it (`refusal`). `access` says how the rows of a bound
+//! statement are found.
+#![tactic(auto)]
+
+mod access;
+mod binder;
+mod columns;
+mod creating;
+mod each;
+mod literal;
+mod number;
+mod refusal;
+
+pub use access::{Path, path_of};
+pub use binder::bind;
+pub use refusal::Refusal;
