@@ -1,7 +1,7 @@
 use Rattle.std.proofs.Common.{◌≡◌, ◌∷◌, ◌++◌, drop}
 use Rattle.std.specs.List.{flat_map}
 use Rattle.isp_plain.specs.Texts.{value_text}
-use Rattle.isp_text.proofs.reply.push_others.Given as goal
+use Rattle.isp_text.proofs.row.push_others.Given as goal
 
 abbrev pub invariant-loop-value : goal.invariant-loop-value
 invariant-loop-value l =
