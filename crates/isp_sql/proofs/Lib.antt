@@ -4,3 +4,4 @@ pub mod SoundReading
 pub mod SoundForms
 pub mod CompleteReading
 pub mod CompleteForms
+pub mod TokenLaws
