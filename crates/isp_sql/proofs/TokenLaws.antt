@@ -10,12 +10,13 @@ use Rattle.isp_plain.specs.declared.statement.Op.{Op}
 use Rattle.isp_plain.specs.declared.statement.Op.TheVariants.{Eq, Ne, Lt, Le, Gt, Ge}
 use Rattle.isp_sql.specs.declared.token.Begun.{Begun}
 use Rattle.isp_sql.specs.declared.token.Begun.TheVariants as begun
+use Rattle.isp_sql.specs.declared.token.Next.{Next}
 use Rattle.isp_sql.specs.declared.token.Symbol.{Symbol}
 use Rattle.isp_sql.specs.declared.token.Symbol.TheVariants as symbol
 use Rattle.isp_sql.specs.declared.token.Token.{Token}
 use Rattle.isp_sql.specs.declared.token.Token.TheVariants as token
 use Rattle.isp_sql.specs.declared.words.Word.{Word}
-use Rattle.isp_sql.specs.Scanning.{symbol_of, op_of, longer, begin, begun_by, begun_as, step, in_text, in_op, ended, onto, scan, tokens_of}
+use Rattle.isp_sql.specs.Scanning.{symbol_of, op_of, longer, begin, begun_by, begun_as, goes_on, ends, step, in_text, in_op, ended, onto, scan, tokens_of}
 use Rattle.isp_sql.specs.Tokens.{is_blank, is_letter, is_name_byte, is_control, is_worded, is_number, quoted, IsOp, symbol_byte, Spells, lengthens, Ends, AreBlanks, AreTokens, known, worded}
 use Rattle.isp_sql.specs.Words.{word_of}
 use Rattle.isp_sql.proofs.SoundReading.{chosen, never, wrong}
@@ -209,3 +210,160 @@ before (begun.Op w) b text ts i a = token_before (begun.Op w) b text ts i a
 before begun.Bang b text ts i a = token_before begun.Bang b text ts i a
 before (begun.Symbol w) b text ts i a = token_before (begun.Symbol w) b text ts i a
 before begun.Failed b text ts i a = absurd a.continues
+
+-- ---- what is scanned is tokens
+
+cons_parts : (b c : ℕ) (xs ys : List ℕ) → b ∷ xs ≡ c ∷ ys → (b ≡ c) × (xs ≡ ys)
+cons_parts b c xs ys e = (let same : b ≡ c = cc in same, let same : xs ≡ ys = cc in same)
+
+word_lengthens : (o : Option Word) (w : List ℕ) (b : ℕ) → lengthens (known o w) b ≡ is_name_byte b
+word_lengthens (Some v) w b = refl
+word_lengthens None w b = refl
+
+no_longer : (op : Op) (b : ℕ) → longer op b ≡ None → lengthens (token.Op op) b ≡ false
+no_longer Eq b e = refl
+no_longer Ne b e = refl
+no_longer Le b e = refl
+no_longer Ge b e = refl
+no_longer Lt b e = at (b == 61) (b == 62) e
+  where
+    at : (x y : Bool) → ◌≡◌ {A = Option Op} (cond x (Some Le) (cond y (Some Ne) None)) None → (x || y) ≡ false
+    at true y is = never Le (sym is)
+    at false true is = never Ne (sym is)
+    at false false is = refl
+no_longer Gt b e = at (b == 61) e
+  where
+    at : (x : Bool) → ◌≡◌ {A = Option Op} (cond x (Some Ge) None) None → x ≡ false
+    at true is = never Ge (sym is)
+    at false is = refl
+
+longer_once : (op l o : Op) (b c : ℕ) → longer op b ≡ Some l → longer l c ≡ Some o → ⊥
+longer_once Eq l o b c e f = never l e
+longer_once Ne l o b c e f = never l e
+longer_once Le l o b c e f = never l e
+longer_once Ge l o b c e f = never l e
+longer_once Lt l o b c e f =
+    elim (longer_less b l e) [
+      | inl j ↦ never o (ap (λ (x : Op). longer x c) (sym j.1) ∙ f)
+      | inr j ↦ never o (ap (λ (x : Op). longer x c) (sym j.1) ∙ f)
+    ]
+longer_once Gt l o b c e f = never o (ap (λ (x : Op). longer x c) (sym (longer_greater b l e).1) ∙ f)
+
+ends_here : (begun : Begun) (t : Token) (ts : List Token) → Continues begun [] t → t ∷ [] ≡ ts → Goes begun [] ts
+ends_here begun t ts c e = record { first = t; others = []; more = []; rest = []; listed = sym e; parts = refl; continues = c; ends = tt; tail = refl }
+
+some_list : (xs ys : List Token) → ◌≡◌ {A = Option (List Token)} (Some xs) (Some ys) → xs ≡ ys
+some_list xs ys e = cc
+
+ended_is : (begun : Begun) (ts : List Token) → ended begun ≡ Some ts → Ahead begun [] ts
+ended_is begun.Nothing ts e = subst (λ (us : List Token). AreTokens us []) (some_list [] ts e) refl
+ended_is (begun.Word w) ts e = ends_here (begun.Word w) (worded w) ts (refl, ap worded (sym (append-nil w))) (some_list _ ts e)
+ended_is (begun.Digits d) ts e = ends_here (begun.Digits d) (token.Digits d) ts (refl, ap token.Digits (sym (append-nil d))) (some_list _ ts e)
+ended_is (begun.Text s) ts e = never ts e
+ended_is (begun.Quote s) ts e = ends_here (begun.Quote s) (token.Text s) ts (inl (refl, refl)) (some_list _ ts e)
+ended_is (begun.Op o) ts e = ends_here (begun.Op o) (token.Op o) ts (inl (refl, refl)) (some_list _ ts e)
+ended_is begun.Bang ts e = never ts e
+ended_is (begun.Symbol s) ts e = ends_here (begun.Symbol s) (token.Symbol s) ts (refl, refl) (some_list _ ts e)
+ended_is begun.Failed ts e = never ts e
+
+-- a token ended before the byte
+finished : (begun : Begun) (t : Token) (b : ℕ) (text : List ℕ) (others ts : List Token) → Continues begun [] t → lengthens t b ≡ false → Ahead (begin b) text others → ts ≡ t ∷ others → Goes begun (b ∷ text) ts
+finished begun t b text others ts c stop a e =
+    record { first = t; others = others; more = []; rest = b ∷ text; listed = e; parts = refl; continues = c; ends = stop; tail = before (begin b) b text others (begins b) a }
+
+-- what has begun goes on with the byte
+carried : (begun next : Begun) (b : ℕ) (text : List ℕ) (others ts : List Token) (g : Goes next text others) → Continues begun (b ∷ g.more) g.first → ts ≡ others → Goes begun (b ∷ text) ts
+carried begun next b text others ts g c e =
+    record { first = g.first; others = g.others; more = b ∷ g.more; rest = g.rest; listed = e ∙ g.listed; parts = ap (λ (u : List ℕ). b ∷ u) g.parts; continues = c; ends = g.ends; tail = g.tail }
+
+module _ (b : ℕ) (text : List ℕ) (others ts : List Token) where
+  word_is : (w : List ℕ) (t : Bool) → is_name_byte b ≡ t → Ahead (cond t (begun.Word (w ++ b ∷ [])) (begin b)) text others
+      → ts ≡ option_to_list (cond t None (Some (worded w))) ++ others → Goes (begun.Word w) (b ∷ text) ts
+  word_is w true h a e =
+      carried (begun.Word w) (begun.Word (w ++ b ∷ [])) b text others ts a
+      (ap (λ (x : Bool). x && list_all is_name_byte a.more) h ∙ a.continues.0, a.continues.1 ∙ ap worded (append_assoc w (b ∷ []) a.more)) e
+  word_is w false h a e =
+      finished (begun.Word w) (worded w) b text others ts (refl, ap worded (sym (append-nil w))) (word_lengthens (word_of w) w b ∙ h) a e
+
+  digits_is : (w : List ℕ) (t : Bool) → is_ascii_digit b ≡ t → Ahead (cond t (begun.Digits (w ++ b ∷ [])) (begin b)) text others
+      → ts ≡ option_to_list (cond t None (Some (token.Digits w))) ++ others → Goes (begun.Digits w) (b ∷ text) ts
+  digits_is w true h a e =
+      carried (begun.Digits w) (begun.Digits (w ++ b ∷ [])) b text others ts a
+      (ap (λ (x : Bool). x && list_all is_ascii_digit a.more) h ∙ a.continues.0, a.continues.1 ∙ ap token.Digits (append_assoc w (b ∷ []) a.more)) e
+  digits_is w false h a e = finished (begun.Digits w) (token.Digits w) b text others ts (refl, ap token.Digits (sym (append-nil w))) h a e
+
+  quote_goes : (s more : List ℕ) (t : Token) → b ≡ 39 → Continues (begun.Quote s) more t → Continues (begun.Text s) (b ∷ more) t
+  quote_goes s more t h (inl c) = ([], ap (λ (a : ℕ). a ∷ more) h ∙ ap (λ (m : List ℕ). 39 ∷ m) c.0, refl, c.1 ∙ ap token.Text (sym (append-nil s)))
+  quote_goes s more t h (inr c) = (39 ∷ c.0, ap (λ (a : ℕ). a ∷ more) h ∙ ap (λ (m : List ℕ). 39 ∷ m) c.1, c.2, c.3)
+
+  text_is : (s : List ℕ) (x y : Bool) → (b == 39) ≡ x → is_control b ≡ y → Ahead (cond x (begun.Quote s) (cond y begun.Failed (begun.Text (s ++ b ∷ [])))) text others
+      → ts ≡ others → Goes (begun.Text s) (b ∷ text) ts
+  text_is s true y h k a e = carried (begun.Text s) (begun.Quote s) b text others ts a (quote_goes s a.more a.first (is_it b 39 h) a.continues) e
+  text_is s false true h k a e = absurd a.continues
+  text_is s false false h k a e =
+      let c = a.continues in
+      let written : quoted (b ∷ c.0) ≡ b ∷ quoted c.0 = if_false (b == 39) _ _ h in
+      carried (begun.Text s) (begun.Text (s ++ b ∷ [])) b text others ts a
+      (b ∷ c.0, ap (λ (m : List ℕ). b ∷ m) c.1 ∙ ap (λ (m : List ℕ). m ++ 39 ∷ []) (sym written), ap (λ (x : Bool). not x && list_all (λ b. not (is_control b)) c.0) k ∙ c.2,
+        c.3 ∙ ap token.Text (append_assoc s (b ∷ []) c.0)) e
+
+  quote_is : (s : List ℕ) (t : Bool) → (b == 39) ≡ t → Ahead (cond t (begun.Text (s ++ b ∷ [])) (begin b)) text others
+      → ts ≡ option_to_list (cond t None (Some (token.Text s))) ++ others → Goes (begun.Quote s) (b ∷ text) ts
+  quote_is s true h a e =
+      let c = a.continues in
+      carried (begun.Quote s) (begun.Text (s ++ b ∷ [])) b text others ts a
+      (inr (c.0, ap (λ (x : ℕ). x ∷ a.more) (is_it b 39 h) ∙ ap (λ (m : List ℕ). 39 ∷ m) c.1, c.2,
+        c.3 ∙ ap token.Text (append_assoc s (b ∷ []) c.0 ∙ ap (λ (x : ℕ). s ++ x ∷ c.0) (is_it b 39 h)))) e
+  quote_is s false h a e = finished (begun.Quote s) (token.Text s) b text others ts (inl (refl, refl)) h a e
+
+  op_goes : (op l : Op) (more : List ℕ) (t : Token) → longer op b ≡ Some l → Continues (begun.Op l) more t → Continues (begun.Op op) (b ∷ more) t
+  op_goes op l more t h (inl c) = inr (b, l, ap (λ (m : List ℕ). b ∷ m) c.0, h, c.1)
+  op_goes op l more t h (inr c) = absurd (longer_once op l c.1 b c.0 h c.3)
+
+  op_step_is : (op : Op) (o : Option Op) → longer op b ≡ o → Ahead (in_op op o b).begun text others → ts ≡ option_to_list (in_op op o b).whole ++ others → Goes (begun.Op op) (b ∷ text) ts
+  op_step_is op (Some l) h a e = carried (begun.Op op) (begun.Op l) b text others ts a (op_goes op l a.more a.first h a.continues) e
+  op_step_is op None h a e = finished (begun.Op op) (token.Op op) b text others ts (inl (refl, refl)) (no_longer op b h) a e
+
+  bang_goes : (more : List ℕ) (t : Token) → b ≡ 61 → Continues (begun.Op Ne) more t → Continues begun.Bang (b ∷ more) t
+  bang_goes more t h (inl c) = (ap (λ (a : ℕ). a ∷ more) h ∙ ap (λ (m : List ℕ). 61 ∷ m) c.0, c.1)
+  bang_goes more t h (inr c) = never c.1 c.3
+
+  bang_is : (x : Bool) → (b == 61) ≡ x → Ahead (cond x (begun.Op Ne) begun.Failed) text others → ts ≡ others → Goes begun.Bang (b ∷ text) ts
+  bang_is true h a e = carried begun.Bang (begun.Op Ne) b text others ts a (bang_goes a.more a.first (is_it b 61 h) a.continues) e
+  bang_is false h a e = absurd a.continues
+
+-- the fields of a choice
+word_choice : (t : Bool) (next : Begun) (token : Token) (b : ℕ) → cond t (goes_on next) (ends token b) ≡ record { whole = cond t None (Some token); begun = cond t next (begin b) }
+word_choice true next token b = refl
+word_choice false next token b = refl
+
+step_is : (begun : Begun) (b : ℕ) (text : List ℕ) (others ts : List Token) → Ahead (step begun b).begun text others → ts ≡ option_to_list (step begun b).whole ++ others → Ahead begun (b ∷ text) ts
+step_is begun.Nothing b text others ts a e = subst (λ (us : List Token). AreTokens us (b ∷ text)) (sym e) (before (begin b) b text others (begins b) a)
+step_is (begun.Word w) b text others ts a e =
+    let c = word_choice (is_name_byte b) (begun.Word (w ++ b ∷ [])) (worded w) b in
+    word_is b text others ts w (is_name_byte b) refl (subst (λ (n : Next). Ahead n.begun text others) c a) (e ∙ ap (λ (n : Next). option_to_list n.whole ++ others) c)
+step_is (begun.Digits d) b text others ts a e =
+    let c = word_choice (is_ascii_digit b) (begun.Digits (d ++ b ∷ [])) (token.Digits d) b in
+    digits_is b text others ts d (is_ascii_digit b) refl (subst (λ (n : Next). Ahead n.begun text others) c a) (e ∙ ap (λ (n : Next). option_to_list n.whole ++ others) c)
+step_is (begun.Text s) b text others ts a e = text_is b text others ts s (b == 39) (is_control b) refl refl a e
+step_is (begun.Quote s) b text others ts a e =
+    let c = word_choice (b == 39) (begun.Text (s ++ b ∷ [])) (token.Text s) b in
+    quote_is b text others ts s (b == 39) refl (subst (λ (n : Next). Ahead n.begun text others) c a) (e ∙ ap (λ (n : Next). option_to_list n.whole ++ others) c)
+step_is (begun.Op o) b text others ts a e = op_step_is b text others ts o (longer o b) refl a e
+step_is begun.Bang b text others ts a e = bang_is b text others ts (b == 61) refl a e
+step_is (begun.Symbol s) b text others ts a e = finished (begun.Symbol s) (token.Symbol s) b text others ts (refl, refl) refl a e
+step_is begun.Failed b text others ts a e = absurd a.continues
+
+onto_some : (whole : List Token) (o : Option (List Token)) (ts : List Token) → onto whole o ≡ Some ts → (others : List Token) × (o ≡ Some others) × (ts ≡ whole ++ others)
+onto_some whole (Some others) ts e = (others, refl, sym (some_list (whole ++ others) ts e))
+onto_some whole None ts e = never ts e
+
+scan_sound : (text : List ℕ) (begun : Begun) (ts : List Token) → scan begun text ≡ Some ts → Ahead begun text ts
+scan_sound [] begun ts e = ended_is begun ts e
+scan_sound (b ∷ text) begun ts e =
+    let o = onto_some (option_to_list (step begun b).whole) (scan (step begun b).begun text) ts e in
+    step_is begun b text o.0 ts (scan_sound text (step begun b).begun o.0 o.1) o.2
+
+pub tokens_sound : (text : List ℕ) (ts : List Token) → tokens_of text ≡ Some ts → AreTokens ts text
+unfolding tokens_of
+tokens_sound text ts e = scan_sound text begun.Nothing ts e
