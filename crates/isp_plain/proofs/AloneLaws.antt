@@ -2,19 +2,22 @@
 use Rattle.std.proofs.Common.{◌≡◌, ℕ, zero, suc, ℤ, ◌≤◌, ◌+◌, ◌-◌, Bool, true, false, not, ◌&&◌, ◌||◌, ◌==◌, List, [], ◌∷◌, ◌++◌, length, map, drop, slice_get, refl, ap, ◌∙◌, sym, subst, arith, Option, Some, None, MatchBool, if◌then◌else◌, ◌⊎◌, inl, inr}
 use Rattle.std.specs.Prelude.{All, ◌↔◌}
 use Rattle.std.specs.Option.{option_and_then}
+use Rattle.std.specs.Fmt.{signed_decimal}
+use Rattle.std.specs.List.{list_all}
 use Rattle.std.specs.Str.{bytes_eq}
+use Rattle.std.proofs.lemmas.Bool.{and_parts, not-true}
 use Rattle.std.proofs.lemmas.Bool.Decides.{nat_tests}
 use Rattle.std.proofs.lemmas.List.Elements.{All-cons}
 use Rattle.isp_plain.specs.declared.script.Script.{Script}
 use Rattle.isp_plain.specs.declared.statement.Statement.{Statement}
-use Rattle.isp_plain.specs.declared.statement.Statement.TheVariants.{Create, Insert, Select, Begin, Commit, Rollback, Refused}
+use Rattle.isp_plain.specs.declared.statement.Statement.TheVariants.{Create, Insert, Select, Update, Delete, Begin, Commit, Rollback, Refused}
 use Rattle.isp_plain.specs.Alone.{State, settled, rolled_back, changed, after_statement, after_text, after_texts, turn_of, answer_with, answer_to, answers_to, IsFaithful, MayMean}
 use Rattle.isp_plain.specs.Answers.{Answer, NeverFalls, answers_of, counted_from, is_end, is_full, is_deadlock}
 use Rattle.isp_plain.specs.Does.{does}
 use Rattle.isp_plain.specs.Script.{texts_of, text_in, text_at}
 use Rattle.isp_plain.specs.Serial.{Agrees, Becomes, Ends, EndsAll, Repeats, Replays, Pending, is_given, is_inside, done, effect_of, place_at}
 use Rattle.isp_plain.specs.Tables.{Table}
-use Rattle.isp_plain.specs.Texts.{ok_text, end_text, full_text, deadlock_text, duplicate_text, no_table_text, not_built_text, refusal_text, reply_text}
+use Rattle.isp_plain.specs.Texts.{Refusal, refusals, text_of, text_among, ok_text, end_text, full_text, deadlock_text, refusal_text, reply_text}
 use Rattle.isp_plain.specs.Transactions.{Language, Effect, begins, commits, rolls_back, stays, ends, keeps, is_begin, is_close, is_commit, is_ok}
 use Rattle.isp_plain.proofs.DoesLaws.{RefusesOwn, does_own}
 use Rattle.isp_plain.proofs.TextLaws.{own_not_given}
@@ -50,29 +53,44 @@ ok_says : bytes_eq ok_text ok_text ≡ true
 unfolding ok_text
 ok_says = refl
 
-either_text : (b : Bool) (xs ys : List ℕ) → bytes_eq xs ok_text ≡ false → bytes_eq ys ok_text ≡ false → bytes_eq (if b then xs else ys) ok_text ≡ false
-either_text true xs ys first second = first
-either_text false xs ys first second = second
+-- the words begin with another letter than OK does
+abbrev is_apart : List ℕ → Bool
+is_apart [] = false
+is_apart (b ∷ words) = not (b == 79)
 
-duplicate_says : (at : ℤ) → bytes_eq (refusal_text 1062 at) ok_text ≡ false
-unfolding duplicate_text ok_text
-duplicate_says at = refl
+all_apart : list_all (λ refusal. is_apart refusal.words) refusals ≡ true
+unfolding refusals full_text deadlock_text
+all_apart = refl
 
-fixed_say : (bytes_eq full_text ok_text ≡ false) × (bytes_eq no_table_text ok_text ≡ false) × (bytes_eq deadlock_text ok_text ≡ false) × (bytes_eq not_built_text ok_text ≡ false)
-unfolding full_text no_table_text deadlock_text not_built_text ok_text
-fixed_say = (refl, refl, refl, refl)
+apart_says : (words more : List ℕ) → is_apart words ≡ true → bytes_eq (words ++ more) ok_text ≡ false
+unfolding ok_text
+apart_says [] more apart = cc
+apart_says (b ∷ words) more apart = rw (not-true (b == 79) apart) refl
+
+either_says : (b : Bool) (xs ys : List ℕ) → bytes_eq xs ok_text ≡ false → bytes_eq ys ok_text ≡ false → bytes_eq (if b then xs else ys) ok_text ≡ false
+either_says true xs ys first second = first
+either_says false xs ys first second = second
+
+nothing_says : bytes_eq [] ok_text ≡ false
+unfolding ok_text
+nothing_says = refl
+
+among_says : (these : List Refusal) (number : ℕ) (place : List ℕ) → list_all (λ refusal. is_apart refusal.words) these ≡ true → bytes_eq (text_among these number place) ok_text ≡ false
+among_says [] number place apart = nothing_says
+among_says (refusal ∷ others) number place apart =
+    let parts = and_parts (is_apart refusal.words) (list_all (λ refusal. is_apart refusal.words) others) apart in
+    either_says (refusal.number == number) (text_of refusal place) (text_among others number place)
+    (apart_says refusal.words _ parts.0) (among_says others number place parts.1)
 
 refusal_says : (number : ℕ) (at : ℤ) → bytes_eq (refusal_text number at) ok_text ≡ false
-refusal_says number at =
-    either_text (number == 1062) _ _ (duplicate_says at)
-    (either_text (number == 1114) _ _ fixed_say.0
-    (either_text (number == 1146) _ _ fixed_say.1
-    (either_text (number == 1213) _ _ fixed_say.2 fixed_say.3)))
+refusal_says number at = among_says refusals number (signed_decimal at) all_apart
 
 refuses_own : (effect : Effect) (statement : Statement) → MayMean effect statement → RefusesOwn statement
 refuses_own effect (Create name schema) may = tt
 refuses_own effect (Insert name rows) may = tt
 refuses_own effect (Select name columns condition) may = tt
+refuses_own effect (Update name sets condition) may = tt
+refuses_own effect (Delete name condition) may = tt
 refuses_own effect Begin may = tt
 refuses_own effect Commit may = tt
 refuses_own effect Rollback may = tt
@@ -153,6 +171,14 @@ verdict state (Insert name rows) effect may outside =
 verdict state (Select name columns condition) effect may outside =
     let ok = says_ok state (Select name columns condition) in
     same_verdict state (changed state state.present) effect stays ok state.present may (other_verdict state.committed state.present state.present state.inside ok)
+verdict state (Update name sets condition) effect may outside =
+    let ok = says_ok state (Update name sets condition) in
+    let tables = (does state.present (Update name sets condition)).tables in
+    same_verdict state (changed state tables) effect stays ok tables may (other_verdict state.committed state.present tables state.inside ok)
+verdict state (Delete name condition) effect may outside =
+    let ok = says_ok state (Delete name condition) in
+    let tables = (does state.present (Delete name condition)).tables in
+    same_verdict state (changed state tables) effect stays ok tables may (other_verdict state.committed state.present tables state.inside ok)
 verdict state Begin effect may outside =
     same_verdict state (after_statement state Begin) effect begins (says_ok state Begin) state.present may
     (begin_verdict state.committed state.present state.inside (says_ok state Begin) ok_says)

@@ -7,9 +7,10 @@ use Rattle.std.proofs.lemmas.List.Elements.{All-cons, All-append}
 use Rattle.isp_plain.specs.declared.script.Script.{Script}
 use Rattle.isp_plain.specs.declared.script.Session.{Session}
 use Rattle.isp_plain.specs.declared.statement.Statement.{Statement}
-use Rattle.isp_plain.specs.declared.statement.Statement.TheVariants.{Create, Insert, Select, Begin, Commit, Rollback, Refused}
-use Rattle.isp_plain.specs.Alone.{State, settled, rolled_back, after_statement, after_text, after_texts, after_setup, turn_of, answer_with, answer_to, answers_to, session_answers, sessions_answers, after_session, after_sessions, run_answers, run_after, AreSmall, IsAlone, IsFaithful, IsPlain}
+use Rattle.isp_plain.specs.declared.statement.Statement.TheVariants.{Create, Insert, Select, Update, Delete, Begin, Commit, Rollback, Refused}
+use Rattle.isp_plain.specs.Alone.{State, changed, settled, rolled_back, after_statement, after_text, after_texts, after_setup, turn_of, answer_with, answer_to, answers_to, session_answers, sessions_answers, after_session, after_sessions, run_answers, run_after, AreSmall, IsAlone, IsFaithful, IsPlain}
 use Rattle.isp_plain.specs.Answers.{Answer, NeverFalls, is_end, is_full, is_deadlock}
+use Rattle.isp_plain.specs.Lined.{are_lined, is_lined_statement}
 use Rattle.isp_plain.specs.Script.{texts_of}
 use Rattle.isp_plain.specs.Serial.{Serial, EndsAll, Pending, Replays, done, place_at}
 use Rattle.isp_plain.specs.Tables.{Table}
@@ -17,7 +18,8 @@ use Rattle.isp_plain.specs.Texts.{end_text, full_text, deadlock_text}
 use Rattle.isp_plain.specs.Transactions.{Language}
 use Rattle.isp_plain.proofs.AloneLaws.{Stands, all_of, flat, if_else, if_so, joined, none_of, not_given, only, over, rising, same_number, settles, stands_elsewhere, stands_settled}
 use Rattle.isp_plain.proofs.AloneFits.{fits_at}
-use Rattle.isp_plain.proofs.TextLaws.{reply_line, end_line}
+use Rattle.isp_plain.proofs.LinedLaws.{does_line, does_lined}
+use Rattle.isp_plain.proofs.TextLaws.{end_line}
 
 texts_of_only : (session : Session) → option_map (λ s. s.texts) (find (λ s. s.number == session.number) (session ∷ [])) ≡ Some session.texts
 texts_of_only session = ap (option_map (λ s. s.texts)) (sym (if_so (session.number == session.number) (Some session) None (same_number session.number)))
@@ -27,6 +29,8 @@ stays_outside : (state : State) (statement : Statement) → (statement ≡ Begin
 stays_outside state (Create name schema) not_begin outside = outside
 stays_outside state (Insert name rows) not_begin outside = outside
 stays_outside state (Select name columns condition) not_begin outside = outside
+stays_outside state (Update name sets condition) not_begin outside = outside
+stays_outside state (Delete name condition) not_begin outside = outside
 stays_outside state Begin not_begin outside = absurd (not_begin refl)
 stays_outside state Commit not_begin outside = refl
 stays_outside state Rollback not_begin outside = refl
@@ -121,20 +125,52 @@ end_not session number = (refl, refl)
 turn_small : (session number : ℕ) → number < 2 ^ 64 → turn_of session number < 2 ^ 64
 turn_small session number small = turn_either (session == 0) number small
 
+-- no text in the committed or the present tables has a line feed
+abbrev IsLined : State → Type 0
+IsLined state = (are_lined state.committed ≡ true) × (are_lined state.present ≡ true)
+
+either_lined : (b : Bool) (xs ys : List Table) → are_lined xs ≡ true → are_lined ys ≡ true → are_lined (if b then xs else ys) ≡ true
+either_lined true xs ys first second = first
+either_lined false xs ys first second = second
+
+change_lined : (state : State) (tables : List Table) → IsLined state → are_lined tables ≡ true → IsLined (changed state tables)
+change_lined state tables lined is = (either_lined state.inside state.committed tables lined.0 is, is)
+
+statement_lined : (state : State) (statement : Statement) → is_lined_statement statement ≡ true → IsLined state → IsLined (after_statement state statement)
+statement_lined state (Create name schema) is lined = change_lined state _ lined (does_lined state.present (Create name schema) lined.1 is)
+statement_lined state (Insert name rows) is lined = change_lined state _ lined (does_lined state.present (Insert name rows) lined.1 is)
+statement_lined state (Select name columns condition) is lined = change_lined state _ lined lined.1
+statement_lined state (Update name sets condition) is lined = change_lined state _ lined (does_lined state.present (Update name sets condition) lined.1 is)
+statement_lined state (Delete name condition) is lined = change_lined state _ lined (does_lined state.present (Delete name condition) lined.1 is)
+statement_lined state Begin is lined = lined
+statement_lined state Commit is lined = (lined.1, lined.1)
+statement_lined state Rollback is lined = (lined.0, lined.0)
+statement_lined state (Refused number at) is lined = change_lined state _ lined lined.1
+
+text_lined : (language : Language) → IsFaithful language → (session : ℕ) (text : List ℕ) (state : State) → IsLined state → IsLined (after_text language session text state)
+text_lined language is_faithful session text state lined =
+    let at = place_at session state.inside in
+    statement_lined state (language.meaning state.present at text) (is_faithful.lined state.present at text) lined
+
+texts_lined : (language : Language) → IsFaithful language → (session : ℕ) (texts : List (List ℕ)) (state : State) → IsLined state → IsLined (after_texts language session texts state)
+texts_lined language is_faithful session [] state lined = lined
+texts_lined language is_faithful session (text ∷ texts) state lined =
+    texts_lined language is_faithful session texts (after_text language session text state) (text_lined language is_faithful session text state lined)
+
 plain_texts : (language : Language) → IsFaithful language → (session n : ℕ) (texts : List (List ℕ)) (state : State) →
-    session < 2 ^ 64 → n + length texts < 2 ^ 64 → All IsPlain (answers_to language session n texts state)
-plain_texts language is_faithful session n [] state known small = λ k d inside. absurd (omega arith)
-plain_texts language is_faithful session n (text ∷ texts) state known small =
+    session < 2 ^ 64 → n + length texts < 2 ^ 64 → IsLined state → All IsPlain (answers_to language session n texts state)
+plain_texts language is_faithful session n [] state known small lined = λ k d inside. absurd (omega arith)
+plain_texts language is_faithful session n (text ∷ texts) state known small lined =
     let a = answer_to language session n text state in
     let given = given_parts (is_end a) (is_full a) (is_deadlock a) (not_given language is_faithful session n text state) in
     All-cons IsPlain a _
     (record {
-      shown = record { turn = turn_small session n (omega arith); session = known; number = omega arith; text = reply_line (done language state.present session state.inside text).reply };
+      shown = record { turn = turn_small session n (omega arith); session = known; number = omega arith; text = does_line state.present (language.meaning state.present (place_at session state.inside) text) lined.1 };
       turn = refl;
       not_full = given.0;
       not_deadlock = given.1;
     })
-    (plain_texts language is_faithful session (n + 1) texts (after_text language session text state) known (omega arith))
+    (plain_texts language is_faithful session (n + 1) texts (after_text language session text state) known (omega arith) (text_lined language is_faithful session text state lined))
 
 plain_end : (session number : ℕ) → session < 2 ^ 64 → number < 2 ^ 64 → IsPlain (answer_with session number end_text)
 plain_end session number known small = record {
@@ -144,21 +180,23 @@ plain_end session number known small = record {
   not_deadlock = (end_not session number).1;
 }
 
-plain_sessions : (language : Language) → IsFaithful language → (sessions : List Session) (state : State) → AreSmall sessions →
+plain_sessions : (language : Language) → IsFaithful language → (sessions : List Session) (state : State) → AreSmall sessions → IsLined state →
     All IsPlain (sessions_answers language sessions state)
-plain_sessions language is_faithful [] state small = λ k d inside. absurd (omega arith)
-plain_sessions language is_faithful (session ∷ sessions) state small =
+plain_sessions language is_faithful [] state small lined = λ k d inside. absurd (omega arith)
+plain_sessions language is_faithful (session ∷ sessions) state small lined =
     let said = answers_to language session.number 1 session.texts state in
     let last = answer_with session.number (length session.texts + 1) end_text in
     All-append IsPlain (said ++ last ∷ []) _
     (All-append IsPlain said (last ∷ [])
-    (plain_texts language is_faithful session.number 1 session.texts state small.0 (omega arith))
+    (plain_texts language is_faithful session.number 1 session.texts state small.0 (omega arith) lined)
     (All-cons IsPlain last [] (plain_end session.number (length session.texts + 1) small.0 small.1) (λ k d inside. absurd (omega arith))))
-    (plain_sessions language is_faithful sessions (after_session language session state) small.2)
+    (plain_sessions language is_faithful sessions (after_session language session state) small.2
+    (let after = texts_lined language is_faithful session.number session.texts state lined in (after.0, after.0)))
 
 pub all_plain : (language : Language) (script : Script) → IsFaithful language → length script.setup + 1 < 2 ^ 64 → AreSmall script.sessions →
     All IsPlain (run_answers language script)
 all_plain language script is_faithful setup_small sessions_small =
     All-append IsPlain (answers_to language 0 1 script.setup (settled [])) _
-    (plain_texts language is_faithful 0 1 script.setup (settled []) (omega arith) (omega arith))
-    (plain_sessions language is_faithful script.sessions (after_setup language script) sessions_small)
+    (plain_texts language is_faithful 0 1 script.setup (settled []) (omega arith) (omega arith) (refl, refl))
+    (plain_sessions language is_faithful script.sessions (after_setup language script) sessions_small
+    (texts_lined language is_faithful 0 script.setup (settled []) (refl, refl)))

@@ -11,6 +11,7 @@ use Rattle.isp_plain.specs.declared.statement.Statement.{Statement}
 use Rattle.isp_plain.specs.declared.statement.Statement.TheVariants.{Begin, Commit, Rollback, Refused}
 use Rattle.isp_plain.specs.Answers.{Answer, is_full, is_deadlock}
 use Rattle.isp_plain.specs.Does.{does}
+use Rattle.isp_plain.specs.Lined.{is_lined_statement}
 use Rattle.isp_plain.specs.Serial.{done, place_at}
 use Rattle.isp_plain.specs.Spelling.{IsShown}
 use Rattle.isp_plain.specs.Tables.{Table}
@@ -127,11 +128,12 @@ abbrev pub MayMean : Effect → Statement → Type 0
 MayMean effect (Refused number at) = ((number == 1114) ≡ false) × ((number == 1213) ≡ false)
 MayMean effect statement = effect ≡ effect_by statement
 
--- what texts are said to do to transactions is what the statements that they mean do, and no transaction begins in the
--- setup
+-- What of a language makes sessions alone serial: texts do to transactions what the statements that they mean do, no
+-- transaction begins in the setup, and no line feed is put into a table.
 pub record IsFaithful (language : Language) : Type 0 where
   pub meant : (tables : List Table) (at : Place) (text : List ℕ) → MayMean (language.effect text) (language.meaning tables at text)
   pub setup : (tables : List Table) (text : List ℕ) → language.meaning tables place.Setup text ≡ Begin → ⊥
+  pub lined : (tables : List Table) (at : Place) (text : List ℕ) → is_lined_statement (language.meaning tables at text) ≡ true
 
 -- An answer as a session alone gets it from tables in memory: a line shows it, its turn is 0 in the setup and the
 -- statement's number in a session, and it is neither a full file's nor a deadlock's, since there is no file and no lock.

@@ -139,6 +139,7 @@ fn scripts_are_read(rt: HostRuntime) -> Result<(), Fail> {
         }
         assert!(rt; script.words.len() == 0 && !script.stop, "{bytes:?}");
     }
+    law_lines_spelled();
     law_one_script();
     law_within_limits();
     Ok(())
