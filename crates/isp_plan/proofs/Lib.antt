@@ -1,3 +1,5 @@
 mod EachLaws
+pub mod FaithfulLaws
 mod NumberLaws
 mod RowLaws
+pub mod WrittenLaws

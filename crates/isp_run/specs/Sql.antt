@@ -1,6 +1,6 @@
 -- The language whose statements a run answers.
 use Rattle.isp_plain.specs.Transactions.{Language}
-use Rattle.isp_sql.specs.Meaning.{narrow}
+use Rattle.isp_plan.specs.Meaning.{whole}
 
 abbrev pub sql : Language
-sql = narrow
+sql = whole

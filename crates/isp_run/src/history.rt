@@ -103,7 +103,10 @@ impl History {
                 Ok(Reply::Ok)
             }
             Statement::Select { .. } | Statement::Refused { .. } => self.read(&statement),
-            Statement::Create { .. } | Statement::Insert { .. } => self.change(statement),
+            Statement::Create { .. }
+            | Statement::Insert { .. }
+            | Statement::Update { .. }
+            | Statement::Delete { .. } => self.change(statement),
         }
     }
 

@@ -5,11 +5,11 @@ ghost use Rattle.isp_run.specs.Sql.{sql};
 
 use isp_mbr::Bytes;
 use isp_plain::{Place, Plain, Statement};
-use isp_sql::bind;
+use isp_plan::meaning_of;
 use std::alloc::{AllocError, Global};
 
 /// The statement that the text means on these tables, at this place. The error is want of memory.
-#[tactic(auto, unfolding(isp_sql::specs::Meaning::narrow))]
+#[tactic(auto, unfolding(isp_plan::specs::Meaning::whole))]
 pub fn statement_of(
     alloc: Global,
     tables: &Plain,
@@ -18,5 +18,5 @@ pub fn statement_of(
 ) -> Result<Statement, AllocError>
     ensures { IfOk result (λ statement. statement ≡ sql.meaning tables.now place text.now) }
 {
-    bind(alloc, tables, place, text.as_slice())
+    meaning_of(alloc, tables.tables(), place, text.as_slice())
 }
