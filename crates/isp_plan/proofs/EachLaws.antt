@@ -3,7 +3,7 @@ use Rattle.std.proofs.Common.{◌≡◌, ◌∙◌, List, [], ◌∷◌, ◌++�
 use Rattle.isp_plan.specs.declared.refusal.Refusal.{Refusal}
 use Rattle.isp_plan.specs.declared.refusal.Stop.{Stop}
 use Rattle.isp_plan.specs.declared.refusal.Stop.TheVariants.{Refused, Memory}
-use Rattle.isp_plan.specs.Refusals.{◌>>=◌, Gives, each}
+use Rattle.isp_plan.specs.Refusals.{◌>>=◌, Gives}
 
 module _ {X : Type 0} where
   -- what was found before, and what is still found

@@ -1,6 +1,6 @@
 -- What a statement as it is written means, on tables of these names and columns and at a place: the statement on their
 -- columns' numbers, or its refusal for the first cause, in the order in which the lines below have them.
-use Rattle.std.specs.Prelude.{ℕ, ◌+◌, Bool, true, false, not, ◌&&◌, ◌==◌, nat_lt, nat_le, List, [], ◌∷◌, length, take, Result, Ok, Err, Option, Some, None, if◌then◌else◌}
+use Rattle.std.specs.Prelude.{ℕ, ◌+◌, Bool, true, false, not, ◌==◌, nat_lt, nat_le, List, [], ◌∷◌, length, take, Result, Ok, Option, Some, None, if◌then◌else◌}
 use Rattle.std.specs.List.{list_all}
 use Rattle.std.specs.Option.{is_some}
 use Rattle.std.specs.Str.{bytes_eq}
@@ -33,7 +33,7 @@ use Rattle.isp_plan.specs.declared.refusal.Refusal.{Refusal}
 use Rattle.isp_plan.specs.declared.refusal.Refusal.TheVariants.{NotAllowedHere, AlreadyBegun, TableExists, OutOfLimits, NoSuchTable, UnknownColumn, KeyCannotBeSet, ColumnCount, WrongType, RowTooLarge}
 use Rattle.isp_plan.specs.Creating.{column_limit, table_limit, is_short, schema_of}
 use Rattle.isp_plan.specs.Literals.{stored, compared, geometry_of}
-use Rattle.isp_plan.specs.Refusals.{Checked, ◌>>=◌, ensure, known, each, stated}
+use Rattle.isp_plan.specs.Refusals.{◌>>=◌, ensure, known, each, stated}
 
 -- ---- names
 

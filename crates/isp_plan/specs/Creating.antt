@@ -1,5 +1,5 @@
 -- The table that a CREATE TABLE makes, within the limits of a definition.
-use Rattle.std.specs.Prelude.{ℕ, ◌+◌, Bool, true, false, not, ◌&&◌, nat_lt, nat_le, List, [], ◌∷◌, length, Result, Ok, Err}
+use Rattle.std.specs.Prelude.{ℕ, ◌+◌, Bool, true, false, not, ◌&&◌, nat_lt, nat_le, List, [], ◌∷◌, length, Result, Ok}
 use Rattle.std.specs.List.{list_all, list_any}
 use Rattle.std.specs.Str.{bytes_eq}
 use Rattle.isp_plain.specs.declared.value.Column.{Column}
@@ -12,7 +12,7 @@ use Rattle.isp_sql.specs.declared.parsed.ParsedKind.TheVariants as parsed
 use Rattle.isp_plan.specs.declared.refusal.Refusal.{Refusal}
 use Rattle.isp_plan.specs.declared.refusal.Refusal.TheVariants.{OutOfLimits}
 use Rattle.isp_plan.specs.Numbers.{value_of}
-use Rattle.isp_plan.specs.Refusals.{Checked, ◌>>=◌, ensure, each}
+use Rattle.isp_plan.specs.Refusals.{◌>>=◌, ensure, each}
 
 -- ---- limits
 

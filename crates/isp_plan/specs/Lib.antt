@@ -1,6 +1,7 @@
 pub mod Binding
 pub mod Creating
 pub mod Literals
+pub mod Meaning
 pub mod Numbers
 pub mod Paths
 pub mod Refusals

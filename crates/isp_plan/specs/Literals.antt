@@ -1,8 +1,7 @@
 -- What a value says that is written for a column. Each bad value has one cause: first that its form is not the column's,
 -- then that a number is outside of 64 bits, that a text is too long, or the fault in a geometry's text.
-use Rattle.std.specs.Prelude.{ℕ, ◌-◌, ℤ, Bool, true, false, nat_le, List, length, Result, Ok, Err, Option}
+use Rattle.std.specs.Prelude.{ℕ, ◌-◌, Bool, nat_le, List, length, Result, Ok, Err}
 use Rattle.isp_geom.specs.declared.form.Form.{Form}
-use Rattle.isp_wkt.specs.declared.cause.Fault.{Fault}
 use Rattle.isp_wkt.specs.Reading.{Outcome, text_at}
 use Rattle.isp_plain.specs.declared.value.Kind.{Kind}
 use Rattle.isp_plain.specs.declared.value.Kind.TheVariants as kind
@@ -13,7 +12,7 @@ use Rattle.isp_sql.specs.declared.parsed.Literal.TheVariants as literal
 use Rattle.isp_plan.specs.declared.refusal.Refusal.{Refusal}
 use Rattle.isp_plan.specs.declared.refusal.Refusal.TheVariants.{WrongType, OutOfRange, TooLong, Geometry}
 use Rattle.isp_plan.specs.Numbers.{number_of}
-use Rattle.isp_plan.specs.Refusals.{Checked, ◌>>=◌, ensure, known}
+use Rattle.isp_plan.specs.Refusals.{◌>>=◌, ensure, known}
 
 -- a number of 64 bits
 abbrev pub int_of : Bool → List ℕ → Result Value Refusal

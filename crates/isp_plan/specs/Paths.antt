@@ -1,6 +1,6 @@
 -- How the rows of a condition are found: by their key, by a search of a tree, or by going over all rows. The first
 -- comparison of the key with a number decides, else the first test of a column that has a tree.
-use Rattle.std.specs.Prelude.{ℕ, ℤ, Bool, true, false, ◌&&◌, ◌==◌, List, [], ◌∷◌, slice_get, Option, Some, None, if◌then◌else◌}
+use Rattle.std.specs.Prelude.{ℕ, ℤ, Bool, false, ◌==◌, List, [], ◌∷◌, slice_get, Option, Some, None, if◌then◌else◌}
 use Rattle.isp_mbr.specs.declared.predicate.Predicate.{Predicate}
 use Rattle.isp_plain.specs.declared.statement.Atom.{Atom}
 use Rattle.isp_plain.specs.declared.statement.Atom.TheVariants as atom

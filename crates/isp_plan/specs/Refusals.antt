@@ -58,6 +58,7 @@ cause_number Truncated = 9008
 cause_number TooDeep = 9009
 
 abbrev pub number : Refusal → ℕ
+number refusal.Syntax = 1064
 number refusal.NotAllowedHere = 9010
 number refusal.AlreadyBegun = 9015
 number refusal.TableExists = 1050

@@ -19,9 +19,7 @@ use isp_plain::{
     Assign, Atom, Column, Condition, Defined, Indices, Kind, Op, Place, Row, Rows, Schema, Sets,
     Statement, Values, box_of, row_size,
 };
-use isp_sql::{
-    Literal, Literals, Names, Parsed, ParsedAtom, ParsedColumn, ParsedSet,
-};
+use isp_sql::{Literal, Literals, Names, Parsed, ParsedAtom, ParsedColumn, ParsedSet};
 use std::alloc::{AllocError, Global};
 
 // The most tables that there may be.

@@ -2,8 +2,8 @@
 //! columns' numbers, and the way to the rows of its condition.
 //!
 //! A statement as it is written is bound to the names and columns of tables (`binder`, with `creating` for a new table
-//! and `literal` for values). The first cause there is refuses it (`refusal`). `access` says how the rows of a bound
-//! statement are found.
+//! and `literal` for values). The first cause there is refuses it (`refusal`). `meaning` does the same with a text, and
+//! `access` says how the rows of a bound statement are found.
 #![tactic(auto)]
 
 mod access;
@@ -12,9 +12,13 @@ mod columns;
 mod creating;
 mod each;
 mod literal;
+mod meaning;
 mod number;
 mod refusal;
+#[cfg(test)]
+mod tests;
 
 pub use access::{Path, path_of};
 pub use binder::bind;
+pub use meaning::meaning_of;
 pub use refusal::Refusal;

@@ -1,8 +1,7 @@
 //! Why a statement is refused before any row is looked at.
 
 ghost use Rattle.std.specs.Prelude.{◌≡◌, pos};
-ghost use Rattle.std.specs.Option.{option_map};
-ghost use Rattle.isp_plan.specs.Refusals.{cause_number, ensure, known, number, place, refused};
+ghost use Rattle.isp_plan.specs.Refusals.{cause_number, ensure, number, place, refused};
 
 use isp_plain::Statement;
 use isp_wkt::WktCause;
@@ -12,6 +11,8 @@ use std::alloc::AllocError;
 /// manual up to 1406, and this project's own from 9001 on.
 #[derive(Clone, Copy, Debug, PartialEq, Eq)]
 pub enum Refusal {
+    /// The text isn't in the grammar.
+    Syntax,
     /// In the setup a statement other than CREATE TABLE and INSERT, in a session CREATE TABLE.
     NotAllowedHere,
     /// BEGIN or START TRANSACTION inside a transaction.
@@ -99,6 +100,7 @@ impl Refusal {
         ensures { result ≡ number self }
     {
         match self {
+            Refusal::Syntax => 1064,
             Refusal::NotAllowedHere => 9010,
             Refusal::AlreadyBegun => 9015,
             Refusal::TableExists => 1050,

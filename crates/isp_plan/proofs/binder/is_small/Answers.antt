@@ -1,4 +1,4 @@
-use Rattle.std.proofs.Common.{◌≡◌, ◌∙◌, ap, nat_le}
+use Rattle.std.proofs.Common.{◌∙◌, ap, nat_le}
 use Rattle.isp_plain.specs.RowBytes.{row_bytes}
 use Rattle.isp_plan.proofs.RowLaws.{capped_small}
 use Rattle.isp_plan.proofs.binder.is_small.Goals as goal

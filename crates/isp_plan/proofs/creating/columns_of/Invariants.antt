@@ -1,4 +1,4 @@
-use Rattle.std.proofs.Common.{◌≡◌, ◌∷◌, drop}
+use Rattle.std.proofs.Common.{◌≡◌, drop}
 use Rattle.isp_plan.specs.Creating.{column_of, keyed}
 use Rattle.isp_plan.specs.Refusals.{each}
 use Rattle.isp_plan.proofs.EachLaws.{with_front}
