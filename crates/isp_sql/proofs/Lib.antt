@@ -5,3 +5,4 @@ pub mod SoundForms
 pub mod CompleteReading
 pub mod CompleteForms
 pub mod TokenLaws
+pub mod TokensAgain

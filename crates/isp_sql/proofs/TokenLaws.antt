@@ -22,12 +22,12 @@ use Rattle.isp_sql.specs.Words.{word_of}
 use Rattle.isp_sql.proofs.SoundReading.{chosen, never, wrong}
 use Rattle.isp_sql.proofs.CompleteReading.{if_true, if_false}
 
-is_it : (b c : ℕ) → (b == c) ≡ true → b ≡ c
+pub is_it : (b c : ℕ) → (b == c) ≡ true → b ≡ c
 is_it b c h = grind (arith, nat_tests)
 
 
 -- the bytes go on with what has begun, and make it the token
-abbrev Continues : Begun → List ℕ → Token → Type 0
+abbrev pub Continues : Begun → List ℕ → Token → Type 0
 Continues begun.Nothing more t = ⊥
 Continues (begun.Word w) more t = (list_all is_name_byte more ≡ true) × (t ≡ worded (w ++ more))
 Continues (begun.Digits d) more t = (list_all is_ascii_digit more ≡ true) × (t ≡ token.Digits (d ++ more))
@@ -41,18 +41,18 @@ Continues (begun.Symbol s) more t = (more ≡ []) × (t ≡ token.Symbol s)
 Continues begun.Failed more t = ⊥
 
 -- the bytes are what is left of a token that has begun, and further tokens
-record Goes (begun : Begun) (text : List ℕ) (tokens : List Token) : Type 0 where
-  first : Token
-  others : List Token
-  more : List ℕ
-  rest : List ℕ
-  listed : tokens ≡ first ∷ others
-  parts : text ≡ more ++ rest
-  continues : Continues begun more first
-  ends : Ends first rest
-  tail : AreTokens others rest
+pub record Goes (begun : Begun) (text : List ℕ) (tokens : List Token) : Type 0 where
+  pub first : Token
+  pub others : List Token
+  pub more : List ℕ
+  pub rest : List ℕ
+  pub listed : tokens ≡ first ∷ others
+  pub parts : text ≡ more ++ rest
+  pub continues : Continues begun more first
+  pub ends : Ends first rest
+  pub tail : AreTokens others rest
 
-abbrev Ahead : Begun → List ℕ → List Token → Type 0
+abbrev pub Ahead : Begun → List ℕ → List Token → Type 0
 Ahead begun.Nothing text tokens = AreTokens tokens text
 Ahead (begun.Word w) text tokens = Goes (begun.Word w) text tokens
 Ahead (begun.Digits d) text tokens = Goes (begun.Digits d) text tokens
@@ -213,10 +213,10 @@ before begun.Failed b text ts i a = absurd a.continues
 
 -- ---- what is scanned is tokens
 
-cons_parts : (b c : ℕ) (xs ys : List ℕ) → b ∷ xs ≡ c ∷ ys → (b ≡ c) × (xs ≡ ys)
+pub cons_parts : (b c : ℕ) (xs ys : List ℕ) → b ∷ xs ≡ c ∷ ys → (b ≡ c) × (xs ≡ ys)
 cons_parts b c xs ys e = (let same : b ≡ c = cc in same, let same : xs ≡ ys = cc in same)
 
-word_lengthens : (o : Option Word) (w : List ℕ) (b : ℕ) → lengthens (known o w) b ≡ is_name_byte b
+pub word_lengthens : (o : Option Word) (w : List ℕ) (b : ℕ) → lengthens (known o w) b ≡ is_name_byte b
 word_lengthens (Some v) w b = refl
 word_lengthens None w b = refl
 
@@ -252,7 +252,7 @@ longer_once Gt l o b c e f = never o (ap (λ (x : Op). longer x c) (sym (longer_
 ends_here : (begun : Begun) (t : Token) (ts : List Token) → Continues begun [] t → t ∷ [] ≡ ts → Goes begun [] ts
 ends_here begun t ts c e = record { first = t; others = []; more = []; rest = []; listed = sym e; parts = refl; continues = c; ends = tt; tail = refl }
 
-some_list : (xs ys : List Token) → ◌≡◌ {A = Option (List Token)} (Some xs) (Some ys) → xs ≡ ys
+pub some_list : (xs ys : List Token) → ◌≡◌ {A = Option (List Token)} (Some xs) (Some ys) → xs ≡ ys
 some_list xs ys e = cc
 
 ended_is : (begun : Begun) (ts : List Token) → ended begun ≡ Some ts → Ahead begun [] ts
