@@ -265,9 +265,9 @@ definition_again table key columns indexes tokens mid left m c =
     let stops = columns_stop indexes m.2.0 mid left m.2.2 c in
     bind_is (key_at tokens) (key, m.0) _ (key_again _ _ _ m.1)
     ∙ (bind_is (more_at going.Column column_at m.0) (columns, m.2.0) _
-      (more_again column NoNot column_at going.Column column_again column_shrinks comma_begins column_next columns m.0 m.2.0 m.2.1 stops.0 stops.1)
+    (more_again column NoNot column_at going.Column column_again column_shrinks comma_begins column_next columns m.0 m.2.0 m.2.1 stops.0 stops.1)
     ∙ bind_is (more_at going.Comma index_at m.2.0) (indexes, mid) _
-      (more_again index Any index_at going.Comma index_again index_shrinks (λ ts left e. tt) (comma_next index) indexes m.2.0 mid m.2.2 (ap (begins_symbol Comma) c) tt))
+    (more_again index Any index_at going.Comma index_again index_shrinks (λ ts left e. tt) (comma_next index) indexes m.2.0 mid m.2.2 (ap (begins_symbol Comma) c) tt))
 
 -- ---- statements
 

@@ -119,33 +119,33 @@ enough P g shrinks (x ∷ xs) tokens left m =
     omega arith
 
 module _ {X : Type 0} (P : X → Phrase) (Follow : List Token → Type 0) (item : List Token → Outcome X) (g : Going) (again : IsComplete P Follow item) (shrinks : (x : X) → Shrinks (P x))
-  (behind : (tokens left : List Token) → separator g tokens left → Follow tokens)
-  (next : (x : X) (tokens mid left : List Token) → separator g tokens mid → P x mid left → goes_on g tokens ≡ true)
+    (behind : (tokens left : List Token) → separator g tokens left → Follow tokens)
+    (next : (x : X) (tokens mid left : List Token) → separator g tokens mid → P x mid left → goes_on g tokens ≡ true)
   where
-  follows : (xs : List X) (tokens left : List Token) → each (separator g) P xs tokens left → Follow left → Follow tokens
-  follows [] tokens left e f = subst Follow (sym e) f
-  follows (x ∷ xs) tokens left m f = behind tokens m.0 m.1
+    follows : (xs : List X) (tokens left : List Token) → each (separator g) P xs tokens left → Follow left → Follow tokens
+    follows [] tokens left e f = subst Follow (sym e) f
+    follows (x ∷ xs) tokens left m f = behind tokens m.0 m.1
 
-  others_again : (n : ℕ) (xs : List X) (tokens left : List Token) → length xs ≤ n → each (separator g) P xs tokens left → goes_on g left ≡ false → Follow left → others_at g item n tokens ≡ Some (xs, left)
-  others_again zero [] tokens left le e stop f = ap (λ (ts : List Token). Some ([], ts)) e
-  others_again zero (x ∷ xs) tokens left le m stop f = absurd (omega arith)
-  others_again (suc n) [] tokens left le e stop f = if_false (goes_on g tokens) _ _ (ap (goes_on g) e ∙ stop) ∙ ap (λ (ts : List Token). Some ([], ts)) e
-  others_again (suc n) (x ∷ xs) tokens left le m stop f =
-      let few : length xs ≤ n = omega arith in
-      if_true (goes_on g tokens) _ _ (next x tokens m.0 m.2.0 m.1 m.2.1)
-      ∙ (bind_is (item (drop 1 tokens)) (x, m.2.0) _ (ap item (separator_one g _ _ m.1).0 ∙ again x m.0 m.2.0 m.2.1 (follows xs m.2.0 left m.2.2 f))
-      ∙ bind_is (others_at g item n m.2.0) (xs, left) _ (others_again n xs m.2.0 left few m.2.2 stop f))
+    others_again : (n : ℕ) (xs : List X) (tokens left : List Token) → length xs ≤ n → each (separator g) P xs tokens left → goes_on g left ≡ false → Follow left → others_at g item n tokens ≡ Some (xs, left)
+    others_again zero [] tokens left le e stop f = ap (λ (ts : List Token). Some ([], ts)) e
+    others_again zero (x ∷ xs) tokens left le m stop f = absurd (omega arith)
+    others_again (suc n) [] tokens left le e stop f = if_false (goes_on g tokens) _ _ (ap (goes_on g) e ∙ stop) ∙ ap (λ (ts : List Token). Some ([], ts)) e
+    others_again (suc n) (x ∷ xs) tokens left le m stop f =
+        let few : length xs ≤ n = omega arith in
+        if_true (goes_on g tokens) _ _ (next x tokens m.0 m.2.0 m.1 m.2.1)
+        ∙ (bind_is (item (drop 1 tokens)) (x, m.2.0) _ (ap item (separator_one g _ _ m.1).0 ∙ again x m.0 m.2.0 m.2.1 (follows xs m.2.0 left m.2.2 f))
+        ∙ bind_is (others_at g item n m.2.0) (xs, left) _ (others_again n xs m.2.0 left few m.2.2 stop f))
 
-  pub more_again : (xs : List X) (tokens left : List Token) → each (separator g) P xs tokens left → goes_on g left ≡ false → Follow left → more_at g item tokens ≡ Some (xs, left)
-  unfolding more_at
-  more_again xs tokens left m stop f = others_again (length tokens) xs tokens left (enough P g shrinks xs tokens left m) m stop f
+    pub more_again : (xs : List X) (tokens left : List Token) → each (separator g) P xs tokens left → goes_on g left ≡ false → Follow left → more_at g item tokens ≡ Some (xs, left)
+    unfolding more_at
+    more_again xs tokens left m stop f = others_again (length tokens) xs tokens left (enough P g shrinks xs tokens left m) m stop f
 
-  pub list_again : (xs : List X) (tokens left : List Token) → list (separator g) P xs tokens left → goes_on g left ≡ false → Follow left → list_at g item tokens ≡ Some (xs, left)
-  unfolding list_at
-  list_again [] tokens left m stop f = absurd m
-  list_again (x ∷ xs) tokens left m stop f =
-      bind_is (item tokens) (x, m.0) _ (again x tokens m.0 m.1 (follows xs m.0 left m.2 f))
-      ∙ bind_is (more_at g item m.0) (xs, left) _ (more_again xs m.0 left m.2 stop f)
+    pub list_again : (xs : List X) (tokens left : List Token) → list (separator g) P xs tokens left → goes_on g left ≡ false → Follow left → list_at g item tokens ≡ Some (xs, left)
+    unfolding list_at
+    list_again [] tokens left m stop f = absurd m
+    list_again (x ∷ xs) tokens left m stop f =
+        bind_is (item tokens) (x, m.0) _ (again x tokens m.0 m.1 (follows xs m.0 left m.2 f))
+        ∙ bind_is (more_at g item m.0) (xs, left) _ (more_again xs m.0 left m.2 stop f)
 
 pub list_shrinks : {X : Type 0} (P : X → Phrase) (g : Going) → ((x : X) → Shrinks (P x)) → (xs : List X) → Shrinks (list (separator g) P xs)
 list_shrinks P g shrinks [] tokens left m = absurd m

@@ -6,3 +6,4 @@ pub mod CompleteReading
 pub mod CompleteForms
 pub mod TokenLaws
 pub mod TokensAgain
+pub mod StatementLaws

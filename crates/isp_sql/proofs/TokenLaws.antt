@@ -25,7 +25,6 @@ use Rattle.isp_sql.proofs.CompleteReading.{if_true, if_false}
 pub is_it : (b c : ℕ) → (b == c) ≡ true → b ≡ c
 is_it b c h = grind (arith, nat_tests)
 
-
 -- the bytes go on with what has begun, and make it the token
 abbrev pub Continues : Begun → List ℕ → Token → Type 0
 Continues begun.Nothing more t = ⊥
@@ -94,6 +93,7 @@ symbol_is b s e = at (b == 40) (b == 41) (b == 44) (b == 42) (b == 45) refl refl
   where
     same : (x y : Symbol) → ◌≡◌ {A = Option Symbol} (Some x) (Some y) → x ≡ y
     same x y e = cc
+
     at : (v w x y z : Bool) → (b == 40) ≡ v → (b == 41) ≡ w → (b == 44) ≡ x → (b == 42) ≡ y → (b == 45) ≡ z
         → ◌≡◌ {A = Option Symbol} (cond v (Some symbol.Open) (cond w (Some symbol.Close) (cond x (Some symbol.Comma) (cond y (Some symbol.Star) (cond z (Some symbol.Minus) None))))) (Some s) → b ≡ symbol_byte s
     at true w x y z e f g h k is = is_it b 40 e ∙ ap symbol_byte (same symbol.Open s is)
@@ -108,6 +108,7 @@ op_is b o e = at (b == 61) (b == 60) (b == 62) refl refl refl e
   where
     same : (x y : Op) → ◌≡◌ {A = Option Op} (Some x) (Some y) → x ≡ y
     same x y e = cc
+
     at : (x y z : Bool) → (b == 61) ≡ x → (b == 60) ≡ y → (b == 62) ≡ z → ◌≡◌ {A = Option Op} (cond x (Some Eq) (cond y (Some Lt) (cond z (Some Gt) None))) (Some o) → Begins (begun.Op o) b
     at true y z e f g is = inl (sym (same Eq o is), is_it b 61 e)
     at false true z e f g is = inr (inl (sym (same Lt o is), is_it b 60 f))
@@ -133,6 +134,7 @@ longer_less b o e = at (b == 61) (b == 62) refl refl e
   where
     same : (x y : Op) → ◌≡◌ {A = Option Op} (Some x) (Some y) → x ≡ y
     same x y e = cc
+
     at : (x y : Bool) → (b == 61) ≡ x → (b == 62) ≡ y → ◌≡◌ {A = Option Op} (cond x (Some Le) (cond y (Some Ne) None)) (Some o) → ((b ≡ 61) × (o ≡ Le)) ⊎ ((b ≡ 62) × (o ≡ Ne))
     at true y e f is = inl (is_it b 61 e, sym (same Le o is))
     at false true e f is = inr (is_it b 62 f, sym (same Ne o is))
@@ -143,6 +145,7 @@ longer_greater b o e = at (b == 61) refl e
   where
     same : (x y : Op) → ◌≡◌ {A = Option Op} (Some x) (Some y) → x ≡ y
     same x y e = cc
+
     at : (x : Bool) → (b == 61) ≡ x → ◌≡◌ {A = Option Op} (cond x (Some Ge) None) (Some o) → (b ≡ 61) × (o ≡ Ge)
     at true e is = (is_it b 61 e, sym (same Ge o is))
     at false e is = never o is
@@ -303,17 +306,24 @@ module _ (b : ℕ) (text : List ℕ) (others ts : List Token) where
   text_is s false false h k a e =
       let c = a.continues in
       let written : quoted (b ∷ c.0) ≡ b ∷ quoted c.0 = if_false (b == 39) _ _ h in
-      carried (begun.Text s) (begun.Text (s ++ b ∷ [])) b text others ts a
-      (b ∷ c.0, ap (λ (m : List ℕ). b ∷ m) c.1 ∙ ap (λ (m : List ℕ). m ++ 39 ∷ []) (sym written), ap (λ (x : Bool). not x && list_all (λ b. not (is_control b)) c.0) k ∙ c.2,
-        c.3 ∙ ap token.Text (append_assoc s (b ∷ []) c.0)) e
+      carried (begun.Text s) (begun.Text (s ++ b ∷ [])) b text others ts a (
+        b ∷ c.0,
+        ap (λ (m : List ℕ). b ∷ m) c.1 ∙ ap (λ (m : List ℕ). m ++ 39 ∷ []) (sym written),
+        ap (λ (x : Bool). not x && list_all (λ b. not (is_control b)) c.0) k ∙ c.2,
+        c.3 ∙ ap token.Text (append_assoc s (b ∷ []) c.0),
+      ) e
 
   quote_is : (s : List ℕ) (t : Bool) → (b == 39) ≡ t → Ahead (cond t (begun.Text (s ++ b ∷ [])) (begin b)) text others
       → ts ≡ option_to_list (cond t None (Some (token.Text s))) ++ others → Goes (begun.Quote s) (b ∷ text) ts
   quote_is s true h a e =
       let c = a.continues in
       carried (begun.Quote s) (begun.Text (s ++ b ∷ [])) b text others ts a
-      (inr (c.0, ap (λ (x : ℕ). x ∷ a.more) (is_it b 39 h) ∙ ap (λ (m : List ℕ). 39 ∷ m) c.1, c.2,
-        c.3 ∙ ap token.Text (append_assoc s (b ∷ []) c.0 ∙ ap (λ (x : ℕ). s ++ x ∷ c.0) (is_it b 39 h)))) e
+      (inr (
+        c.0,
+        ap (λ (x : ℕ). x ∷ a.more) (is_it b 39 h) ∙ ap (λ (m : List ℕ). 39 ∷ m) c.1,
+        c.2,
+        c.3 ∙ ap token.Text (append_assoc s (b ∷ []) c.0 ∙ ap (λ (x : ℕ). s ++ x ∷ c.0) (is_it b 39 h)),
+      )) e
   quote_is s false h a e = finished (begun.Quote s) (token.Text s) b text others ts (inl (refl, refl)) h a e
 
   op_goes : (op l : Op) (more : List ℕ) (t : Token) → longer op b ≡ Some l → Continues (begun.Op l) more t → Continues (begun.Op op) (b ∷ more) t

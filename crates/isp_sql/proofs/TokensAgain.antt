@@ -47,12 +47,12 @@ blank_begins b h = elim (blank_is b h) [ inl e ↦ ap begin e | inr e ↦ ap beg
 name_plain : (b : ℕ) → is_name_byte b ≡ true → begin b ≡ begun_by b
 name_plain b h =
     let symbols : symbol_of b ≡ None =
-          if_false (b == 40) _ _ (differs is_name_byte b 40 h refl) ∙ (if_false (b == 41) _ _ (differs is_name_byte b 41 h refl)
-          ∙ (if_false (b == 44) _ _ (differs is_name_byte b 44 h refl) ∙ (if_false (b == 42) _ _ (differs is_name_byte b 42 h refl)
-          ∙ if_false (b == 45) _ _ (differs is_name_byte b 45 h refl)))) in
+    if_false (b == 40) _ _ (differs is_name_byte b 40 h refl) ∙ (if_false (b == 41) _ _ (differs is_name_byte b 41 h refl)
+    ∙ (if_false (b == 44) _ _ (differs is_name_byte b 44 h refl) ∙ (if_false (b == 42) _ _ (differs is_name_byte b 42 h refl)
+    ∙ if_false (b == 45) _ _ (differs is_name_byte b 45 h refl)))) in
     let ops : op_of b ≡ None =
-          if_false (b == 61) _ _ (differs is_name_byte b 61 h refl) ∙ (if_false (b == 60) _ _ (differs is_name_byte b 60 h refl)
-          ∙ if_false (b == 62) _ _ (differs is_name_byte b 62 h refl)) in
+    if_false (b == 61) _ _ (differs is_name_byte b 61 h refl) ∙ (if_false (b == 60) _ _ (differs is_name_byte b 60 h refl)
+    ∙ if_false (b == 62) _ _ (differs is_name_byte b 62 h refl)) in
     ap (λ (s : Option Symbol). begun_as s (op_of b) b) symbols ∙ ap (λ (o : Option Op). begun_as None o b) ops
 
 name_not_blank : (b : ℕ) → is_name_byte b ≡ true → is_blank b ≡ false
