@@ -1,5 +1,5 @@
 -- Tokens that are written for a value are read as it.
-use Rattle.std.proofs.Common.{◌≡◌, ◌∙◌, ℕ, zero, suc, ◌+◌, ◌≤◌, Bool, true, false, cond, ◌⊎◌, inl, inr, List, [], ◌∷◌, length, drop, Option, Some, None, refl, sym, ap, subst, arith}
+use Rattle.std.proofs.Common.{◌≡◌, ◌∙◌, ℕ, zero, suc, ◌≤◌, Bool, true, false, cond, inl, inr, List, [], ◌∷◌, length, drop, Option, Some, refl, sym, ap, subst, arith}
 use denote.Enum.Bare.{true_same}
 use Rattle.isp_sql.specs.contracts.words.Word.{the_type as word_type}
 use Rattle.isp_sql.specs.contracts.token.Symbol.{the_type as symbol_type}
@@ -9,12 +9,11 @@ use Rattle.isp_plain.specs.declared.statement.Op.TheVariants as ops
 use Rattle.isp_sql.specs.declared.members.Going.{Going}
 use Rattle.isp_sql.specs.declared.members.Going.TheVariants as going
 use Rattle.isp_sql.specs.declared.token.Symbol.{Symbol}
-use Rattle.isp_sql.specs.declared.token.Symbol.TheVariants.{Comma}
 use Rattle.isp_sql.specs.declared.token.Token.{Token}
 use Rattle.isp_sql.specs.declared.token.Token.TheVariants as token
 use Rattle.isp_sql.specs.declared.words.Word.{Word}
 use Rattle.isp_sql.specs.Grammar.{Phrase, ◌⨾◌, ◌∣◌, empty, one, word, symbol, name, digits, zero_digit, each, list, called}
-use Rattle.isp_sql.specs.Reading.{◌>>=◌, Outcome, begins_word, begins_symbol, word_at, symbol_at, name_at, text_at, digits_at, zero_at, op_at, equal_at, tested, test_at, goes_on, others_at, more_at, list_at}
+use Rattle.isp_sql.specs.Reading.{◌>>=◌, Outcome, word_at, symbol_at, name_at, text_at, digits_at, zero_at, op_at, equal_at, tested, test_at, goes_on, others_at, more_at, list_at}
 use Rattle.isp_sql.specs.Tokens.{is_symbol}
 use Rattle.isp_sql.specs.Words.{is_word}
 use Rattle.isp_sql.proofs.SoundReading.{string, comparison, separator, wrong}

@@ -5,13 +5,12 @@ use Rattle.isp_sql.specs.declared.error.SqlError.{SqlError}
 use Rattle.isp_sql.specs.declared.error.SqlError.TheVariants.{Syntax, OutOfMemory}
 use Rattle.isp_sql.specs.declared.parsed.Parsed.{Parsed}
 use Rattle.isp_sql.specs.declared.token.Token.{Token}
-use Rattle.isp_sql.specs.declared.words.Word.{Word}
 use Rattle.isp_sql.specs.declared.words.Word.TheVariants as words
 use Rattle.isp_sql.specs.Grammar.{IsStatement}
 use Rattle.isp_sql.specs.Laws.{IsRead, OneMeaning, ReadAsWritten, WordsAreKnown}
 use Rattle.isp_sql.specs.Reading.{IsParsed, parsed_in, parsed_of}
 use Rattle.isp_sql.specs.Scanning.{tokens_of}
-use Rattle.isp_sql.specs.Words.{spelling, words as all_words, word_of}
+use Rattle.isp_sql.specs.Words.{spelling, words as all_words}
 use Rattle.isp_sql.proofs.CompleteForms.{parsed_again}
 use Rattle.isp_sql.proofs.SoundForms.{parsed_sound}
 use Rattle.isp_sql.proofs.SoundReading.{never}

@@ -1,11 +1,9 @@
 -- What is scanned of bytes is the tokens that they are, and the tokens that bytes are is what is scanned.
-use Rattle.std.proofs.Common.{◌≡◌, ◌∙◌, ℕ, ◌==◌, ◌&&◌, ◌||◌, not, nat_lt, Bool, true, false, cond, ◌⊎◌, inl, inr, List, [], ◌∷◌, ◌++◌, Option, Some, None, refl, sym, ap, subst, append_assoc, append-nil, arith}
-use Rattle.std.specs.Char.{is_ascii_digit, is_ascii_alphabetic}
+use Rattle.std.proofs.Common.{◌≡◌, ◌∙◌, ℕ, ◌==◌, ◌&&◌, ◌||◌, not, Bool, true, false, cond, ◌⊎◌, inl, inr, List, [], ◌∷◌, ◌++◌, Option, Some, None, refl, sym, ap, subst, append_assoc, append-nil, arith}
+use Rattle.std.specs.Char.{is_ascii_digit}
 use Rattle.std.specs.List.{list_all}
 use Rattle.std.specs.Option.{option_to_list}
-use Rattle.std.proofs.lemmas.Bool.{and_parts}
 use Rattle.std.proofs.lemmas.Bool.Decides.{nat_tests}
-use Rattle.std.proofs.lemmas.List.Folds.{list_all-append}
 use Rattle.isp_plain.specs.declared.statement.Op.{Op}
 use Rattle.isp_plain.specs.declared.statement.Op.TheVariants.{Eq, Ne, Lt, Le, Gt, Ge}
 use Rattle.isp_sql.specs.declared.token.Begun.{Begun}
@@ -16,11 +14,11 @@ use Rattle.isp_sql.specs.declared.token.Symbol.TheVariants as symbol
 use Rattle.isp_sql.specs.declared.token.Token.{Token}
 use Rattle.isp_sql.specs.declared.token.Token.TheVariants as token
 use Rattle.isp_sql.specs.declared.words.Word.{Word}
-use Rattle.isp_sql.specs.Scanning.{symbol_of, op_of, longer, begin, begun_by, begun_as, goes_on, ends, step, in_text, in_op, ended, onto, scan, tokens_of}
-use Rattle.isp_sql.specs.Tokens.{is_blank, is_letter, is_name_byte, is_control, is_worded, is_number, quoted, IsOp, symbol_byte, Spells, lengthens, Ends, AreBlanks, AreTokens, known, worded}
+use Rattle.isp_sql.specs.Scanning.{symbol_of, op_of, longer, begin, begun_by, begun_as, goes_on, ends, step, in_op, ended, onto, scan, tokens_of}
+use Rattle.isp_sql.specs.Tokens.{is_blank, is_letter, is_name_byte, is_control, quoted, symbol_byte, Spells, lengthens, Ends, AreTokens, known, worded}
 use Rattle.isp_sql.specs.Words.{word_of}
-use Rattle.isp_sql.proofs.SoundReading.{chosen, never, wrong}
-use Rattle.isp_sql.proofs.CompleteReading.{if_true, if_false}
+use Rattle.isp_sql.proofs.SoundReading.{never}
+use Rattle.isp_sql.proofs.CompleteReading.{if_false}
 
 pub is_it : (b c : ℕ) → (b == c) ≡ true → b ≡ c
 is_it b c h = grind (arith, nat_tests)

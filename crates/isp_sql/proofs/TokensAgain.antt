@@ -1,5 +1,5 @@
 -- The tokens that bytes are, are scanned.
-use Rattle.std.proofs.Common.{◌≡◌, ◌∙◌, ℕ, ◌==◌, ◌&&◌, ◌||◌, not, Bool, true, false, cond, ◌⊎◌, inl, inr, List, [], ◌∷◌, ◌++◌, Option, Some, None, refl, sym, ap, subst, append_assoc, append-nil, arith}
+use Rattle.std.proofs.Common.{◌≡◌, ◌∙◌, ℕ, ◌==◌, ◌||◌, not, Bool, true, false, cond, ◌⊎◌, inl, inr, List, [], ◌∷◌, ◌++◌, Option, Some, None, refl, sym, ap, subst, append_assoc, append-nil, arith}
 use Rattle.std.specs.Char.{is_ascii_digit}
 use Rattle.std.specs.List.{list_all}
 use Rattle.std.specs.Option.{option_to_list}
@@ -15,12 +15,12 @@ use Rattle.isp_sql.specs.declared.token.Symbol.TheVariants as symbol
 use Rattle.isp_sql.specs.declared.token.Token.{Token}
 use Rattle.isp_sql.specs.declared.token.Token.TheVariants as token
 use Rattle.isp_sql.specs.declared.words.Word.{Word}
-use Rattle.isp_sql.specs.Scanning.{symbol_of, op_of, longer, begin, begun_by, begun_as, goes_on, ends, step, in_text, in_op, ended, onto, scan, tokens_of}
-use Rattle.isp_sql.specs.Tokens.{is_blank, is_letter, is_name_byte, is_control, is_worded, is_number, quoted, IsOp, symbol_byte, Spells, lengthens, Ends, AreBlanks, AreTokens, known, worded}
+use Rattle.isp_sql.specs.Scanning.{symbol_of, op_of, longer, begin, begun_by, begun_as, goes_on, ends, step, in_op, ended, onto, scan, tokens_of}
+use Rattle.isp_sql.specs.Tokens.{is_blank, is_letter, is_name_byte, is_control, quoted, IsOp, symbol_byte, Spells, lengthens, Ends, AreBlanks, AreTokens, known, worded}
 use Rattle.isp_sql.specs.Words.{word_of}
-use Rattle.isp_sql.proofs.SoundReading.{wrong, never}
+use Rattle.isp_sql.proofs.SoundReading.{wrong}
 use Rattle.isp_sql.proofs.CompleteReading.{if_true, if_false}
-use Rattle.isp_sql.proofs.TokenLaws.{is_it, Continues, Goes, Ahead, cons_parts, word_lengthens, some_list}
+use Rattle.isp_sql.proofs.TokenLaws.{is_it, Continues, Goes, Ahead, cons_parts, word_lengthens}
 
 -- ---- which byte begins what
 
