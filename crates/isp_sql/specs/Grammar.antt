@@ -1,20 +1,22 @@
 -- Which tokens are which statement (the MySQL 8.0 manual on these statements; which part of them there is, is this
--- project's own). A phrase says of tokens and of those that are left behind it whether it stands between. Each
--- definition says which phrases a value is written as:
+-- project's own):
 --
 --   statement = create | insert | select | update | delete | BEGIN | START TRANSACTION | COMMIT | ROLLBACK
 --   create    = CREATE TABLE name ( name BIGINT [NOT NULL] PRIMARY KEY {, column} {, SPATIAL INDEX ( name )} )
 --   column    = name BIGINT [NOT NULL] | name VARCHAR ( digits ) [NOT NULL] | name GEOMETRY NOT NULL SRID 0
 --   insert    = INSERT INTO name VALUES row {, row}
 --   row       = ( literal {, literal} )
---   select    = SELECT ( * | name {, name} ) FROM name [where]
+--   select    = SELECT * FROM name [where] | SELECT name {, name} FROM name [where]
 --   update    = UPDATE name SET name = literal {, name = literal} [where]
 --   delete    = DELETE FROM name [where]
 --   where     = WHERE atom {AND atom}
---   atom      = name op plain | test ( name , geometry ) | test ( geometry , name )
+--   atom      = name comparison plain | test ( name , geometry ) | test ( geometry , name )
 --   plain     = [-] digits | string
 --   literal   = plain | geometry
 --   geometry  = ST_GeomFromText ( string [, 0] )
+--
+-- A phrase says of tokens, and of those that are left behind it, whether it stands between. Each definition says as which
+-- phrase a value is written. Which bytes are words, names, digits, strings and comparisons is said in Tokens.
 use Rattle.std.specs.Prelude.{◌≡◌, ℕ, Bool, true, false, ◌⊎◌, List, [], ◌∷◌, Option, Some, None}
 use Rattle.isp_mbr.specs.declared.Test.{Test}
 use Rattle.isp_plain.specs.declared.statement.Op.TheVariants.{Eq}

@@ -88,7 +88,7 @@ fn column_second(alloc: Global, from: &mut Cursor<'_>, test: Test) -> Result<Par
     Ok(ParsedAtom::Box { column, test, g })
 }
 
-/// The tests behind WHERE, or none where it isn't there.
+/// The tests behind WHERE, or none where it isn't there. Syntax comes where a test is wrong, or none follows WHERE.
 #[tactic(auto, unfolding(crate::specs::Reading::where_at))]
 pub fn condition(alloc: Global, from: &mut Cursor<'_>) -> Result<ParsedAtoms, SqlError>
     ensures { Reads result (where_at from.old) from.new }

@@ -27,12 +27,14 @@ impl<'a> Model for Cursor<'a> {
 }
 
 impl<'a> Cursor<'a> {
+    /// All of these tokens are left to read.
     pub fn new(tokens: &'a [Token]) -> Cursor<'a>
         ensures { result ≡ tokens.entry.now }
     {
         Cursor { rest: tokens }
     }
 
+    /// How many tokens are left to read.
     pub fn len(&self) -> usize
         ensures value { result ≡ length self.now }
         ensures small { result < 2 ^ 63 }
@@ -100,7 +102,7 @@ impl<'a> Cursor<'a> {
         }
     }
 
-    /// Goes over this word.
+    /// Goes over this word, or answers Syntax where it isn't there. So do the calls below.
     pub fn word(&mut self, wanted: Word) -> Result<(), SqlError>
         ensures { Reads result (word_at wanted self.old) self.new }
     {
@@ -122,7 +124,7 @@ impl<'a> Cursor<'a> {
         Err(SqlError::Syntax)
     }
 
-    /// A name.
+    /// A name. Syntax comes where none stands there, also in the calls below; the other error is want of memory.
     pub fn name(&mut self, alloc: Global) -> Result<Name, SqlError>
         ensures { Reads result (name_at self.old) self.new }
     {

@@ -138,7 +138,7 @@ fn definition(alloc: Global, from: &mut Cursor<'_>, name: Name) -> Result<Parsed
     })
 }
 
-/// What stands behind CREATE.
+/// What stands behind CREATE. Syntax comes where it is no definition of a table.
 #[tactic(auto, unfolding(crate::specs::Reading::create_at))]
 pub fn create(alloc: Global, from: &mut Cursor<'_>) -> Result<Parsed, SqlError>
     ensures { Reads result (create_at from.old) from.new }

@@ -26,6 +26,7 @@ pub trait Item {
 
     ghost item_at: { Self → List Token → Outcome Self.Out };
 
+    /// The member that stands there: Syntax where none does. The other error is want of memory.
     fn read(&self, alloc: Global, from: &mut Cursor<'_>) -> Result<Self::Out, SqlError>
         ensures { Reads result (item_at self.now from.old) from.new };
 }
@@ -63,7 +64,7 @@ fn others<I: Item>(
     Ok(found)
 }
 
-/// None or more members, each behind one token.
+/// None or more members, each behind one token. Syntax comes where a member is wrong.
 pub fn more<I: Item>(
     alloc: Global,
     from: &mut Cursor<'_>,
@@ -75,7 +76,7 @@ pub fn more<I: Item>(
     others(alloc, from, going, Items::new(alloc), item)
 }
 
-/// One or more members.
+/// One or more members. Syntax comes where a member is wrong, or none stands there.
 #[tactic(auto, unfolding(crate::specs::Reading::list_at))]
 pub fn list<I: Item>(
     alloc: Global,

@@ -55,7 +55,7 @@ impl Item for OneRow {
     }
 }
 
-/// A number or a string.
+/// A number or a string. Syntax comes where neither stands there.
 #[tactic(auto, unfolding(crate::specs::Reading::plain_at))]
 pub fn plain(alloc: Global, from: &mut Cursor<'_>) -> Result<Literal, SqlError>
     ensures { Reads result (plain_at from.old) from.new }
@@ -90,7 +90,7 @@ fn system(from: &mut Cursor<'_>) -> Result<(), SqlError>
     Ok(())
 }
 
-/// The text of a geometry, by ST_GeomFromText.
+/// The text of a geometry, by ST_GeomFromText. Syntax comes where none stands there.
 #[tactic(auto, unfolding(crate::specs::Reading::geometry_at))]
 pub fn geometry(alloc: Global, from: &mut Cursor<'_>) -> Result<Bytes, SqlError>
     ensures { Reads result (geometry_at from.old) from.new }
@@ -103,7 +103,7 @@ pub fn geometry(alloc: Global, from: &mut Cursor<'_>) -> Result<Bytes, SqlError>
     Ok(text)
 }
 
-/// A number, a string or a geometry.
+/// A number, a string or a geometry. Syntax comes where none stands there.
 #[tactic(auto, unfolding(crate::specs::Reading::literal_at))]
 pub fn literal(alloc: Global, from: &mut Cursor<'_>) -> Result<Literal, SqlError>
     ensures { Reads result (literal_at from.old) from.new }
