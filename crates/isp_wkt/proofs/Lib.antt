@@ -1,7 +1,10 @@
 pub mod Complete
 pub mod CompleteForms
+pub mod Deeper
 pub mod Local
 pub mod LocalForms
+pub mod Opens
+pub mod OpensForms
 pub mod PrintedMeans
 pub mod Rules
 pub mod Sequences

@@ -17,6 +17,7 @@ use Rattle.isp_wkt.specs.Grammar.{IsPair, IsList}
 use Rattle.isp_wkt.specs.Reading.{◌>>=◌, Outcome, fault, is_e, skipped, size_at, number_at, point_at, open_at, deep_paren_at, comma_at, more_at, member_at, items_at, list_at, ruled, line_at, lines_at, single_at, marked_at, word_in, unknown_at, kinds, made, body_at, deep_at, geometry_at, members_at, rest_at, text_at}
 use Rattle.isp_wkt.proofs.Sound.{ok_parts, bind_ok, list_sound, point_sound, word_sound, chosen}
 use Rattle.isp_wkt.proofs.Complete.{if_true, pair_complete, list_again}
+use Rattle.isp_wkt.proofs.SoundForms.{text_of}
 use Rattle.isp_wkt.proofs.CompleteForms.{list_skips, word_again}
 use Rattle.isp_wkt.proofs.Local.{Leaves, A, B, Follows, IsLocal, fault_here, choice, leaves_choice, bind_local, done, skipped_le, skip_at, skip_local, at_byte, point_local, open_local, single_local, marked_local, items_local}
 
@@ -353,8 +354,11 @@ module _ (b : ℕ) (more other : List ℕ) where
   rest_local : (f : Form) → IsLocal b more other Form (rest_at f)
   rest_local f = at_byte b more other (rest_at f) (fault_here b more other Trailing []) (λ c u. fault_here b more other Trailing (c ∷ u)) (rest_leaves f)
 
+  pub text_local_of : (depth : ℕ) → IsLocal b more other Form (text_of depth)
+  text_local_of depth = bind_local b more other (skip_at b more other) (λ x. geometry_at (members_at depth) x.1 >>= λ form. rest_at form.0 (skipped form.1)) (skip_local b more other)
+      (λ _. bind_local b more other (geometry_at (members_at depth)) (λ form. rest_at form.0 (skipped form.1)) (geometry_local (members_at depth) (all_local depth))
+      (λ f. bind_local b more other (skip_at b more other) (λ x. rest_at f x.1) (skip_local b more other) (λ _. rest_local f)))
+
   pub text_local : IsLocal b more other Form text_at
   unfolding text_at
-  text_local = bind_local b more other (skip_at b more other) (λ x. geometry_at (members_at 8) x.1 >>= λ form. rest_at form.0 (skipped form.1)) (skip_local b more other)
-      (λ _. bind_local b more other (geometry_at (members_at 8)) (λ form. rest_at form.0 (skipped form.1)) (geometry_local (members_at 8) (all_local 8))
-      (λ f. bind_local b more other (skip_at b more other) (λ x. rest_at f x.1) (skip_local b more other) (λ _. rest_local f)))
+  text_local = text_local_of 8
