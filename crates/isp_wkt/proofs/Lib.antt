@@ -5,6 +5,7 @@ pub mod Local
 pub mod LocalForms
 pub mod Opens
 pub mod OpensForms
+pub mod Places
 pub mod PrintedMeans
 pub mod Rules
 pub mod Sequences

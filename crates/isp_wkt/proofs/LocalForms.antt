@@ -85,7 +85,7 @@ same_front b (c ∷ u) (d ∷ t) more rest e h =
     let r = same_front b u t more rest tail h in cc
 
 -- a front that ends before the byte, and one that ends behind it
-front_before : (b : ℕ) (u t more rest : List ℕ) → u ++ b ∷ more ≡ t ++ rest → suc (length more) ≤ length rest → (v : List ℕ) × (u ≡ t ++ v) × (rest ≡ v ++ b ∷ more)
+pub front_before : (b : ℕ) (u t more rest : List ℕ) → u ++ b ∷ more ≡ t ++ rest → suc (length more) ≤ length rest → (v : List ℕ) × (u ≡ t ++ v) × (rest ≡ v ++ b ∷ more)
 front_before b u [] more rest e h = (u, refl, sym e)
 front_before b [] (c ∷ t) more rest e h = absurd (omega (arith, ap length e, length-append t rest))
 front_before b (c ∷ u) (d ∷ t) more rest e h =
@@ -94,7 +94,7 @@ front_before b (c ∷ u) (d ∷ t) more rest e h =
     let r = front_before b u t more rest tail h in
     (r.0, ap (λ (x : ℕ). x ∷ u) head ∙ ap (λ (x : List ℕ). d ∷ x) r.1, r.2)
 
-front_behind : (b : ℕ) (u t more rest : List ℕ) → u ++ b ∷ more ≡ t ++ rest → length rest ≤ length more → (w : List ℕ) × (t ≡ u ++ b ∷ w)
+pub front_behind : (b : ℕ) (u t more rest : List ℕ) → u ++ b ∷ more ≡ t ++ rest → length rest ≤ length more → (w : List ℕ) × (t ≡ u ++ b ∷ w)
 front_behind b [] [] more rest e h = absurd (omega (arith, ap length e))
 front_behind b [] (c ∷ t) more rest e h = (t, cc)
 front_behind b (c ∷ u) [] more rest e h = absurd (omega (arith, ap length e, length-append u (b ∷ more)))
@@ -358,7 +358,3 @@ module _ (b : ℕ) (more other : List ℕ) where
   text_local_of depth = bind_local b more other (skip_at b more other) (λ x. geometry_at (members_at depth) x.1 >>= λ form. rest_at form.0 (skipped form.1)) (skip_local b more other)
       (λ _. bind_local b more other (geometry_at (members_at depth)) (λ form. rest_at form.0 (skipped form.1)) (geometry_local (members_at depth) (all_local depth))
       (λ f. bind_local b more other (skip_at b more other) (λ x. rest_at f x.1) (skip_local b more other) (λ _. rest_local f)))
-
-  pub text_local : IsLocal b more other Form text_at
-  unfolding text_at
-  text_local = text_local_of 8
