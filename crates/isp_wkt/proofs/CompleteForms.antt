@@ -10,7 +10,7 @@ use Rattle.isp_geom.specs.declared.form.Form.{Form, Form-F, out-Form, roll-Form,
 use Rattle.isp_geom.specs.declared.form.Form.TheVariants.{Point, LineString, Polygon, MultiPoint, MultiLineString, MultiPolygon, Collection, rolls-Point, rolls-LineString, rolls-Polygon, rolls-MultiPoint, rolls-MultiLineString, rolls-MultiPolygon, rolls-Collection}
 use Rattle.isp_geom.specs.Rules.{is_closed}
 use Rattle.isp_wkt.specs.declared.cause.WktCause.{WktCause}
-use Rattle.isp_wkt.specs.declared.cause.WktCause.TheVariants.{TooFew, Empty}
+use Rattle.isp_wkt.specs.declared.cause.WktCause.TheVariants.{TooFew, Empty, Trailing}
 use Rattle.isp_wkt.specs.declared.cause.Fault.{Fault}
 use Rattle.isp_wkt.specs.declared.kind.Kind.{Kind}
 use Rattle.isp_wkt.specs.declared.kind.Kind.TheVariants as kind
@@ -310,6 +310,16 @@ text_again_of depth f text m =
 pub text_again : (f : Form) (text : List ℕ) → IsText f text → text_at text ≡ Ok (f, [])
 unfolding text_at
 text_again f text m = text_again_of 8 f text m
+
+-- a byte behind a whole text
+pub text_behind : (f : Form) (front rest : List ℕ) (b : ℕ) → IsText f front → is_blank b ≡ false → text_at (front ++ b ∷ rest) ≡ Err (record { cause = Trailing; left = length (b ∷ rest) })
+unfolding text_at
+text_behind f front rest b m h =
+    let left : List ℕ = m.after ++ b ∷ rest in
+    let whole : front ++ b ∷ rest ≡ m.before ++ (m.body ++ left) = ap (λ (u : List ℕ). u ++ b ∷ rest) m.parts ∙ append_assoc m.before (m.body ++ m.after) (b ∷ rest) ∙ ap (λ (u : List ℕ). m.before ++ u) (append_assoc m.body m.after (b ∷ rest)) in
+    let start : skipped (front ++ b ∷ rest) ≡ m.body ++ left = ap skipped whole ∙ form_skipped 8 (members_at 8) (members_read 8) m.before f m.body left m.blank.0 m.means in
+    bind_is (geometry_at (members_at 8) (skipped (front ++ b ∷ rest))) (f, left) _ (ap (geometry_at (members_at 8)) start ∙ (form_read 8 (members_at 8) (members_read 8) f m.body m.means left).1)
+    ∙ ap (rest_at f) (skipped_to m.after b rest m.blank.1 h)
 
 pub same_form : (f g : Form) (text : List ℕ) → text_at text ≡ Ok (f, []) → IsText g text → f ≡ g
 same_form f g text e m = (ok_parts f g [] [] (sym e ∙ text_again g text m)).0

@@ -12,7 +12,7 @@ use Rattle.isp_wkt.specs.declared.cause.WktCause.{WktCause}
 use Rattle.isp_wkt.specs.declared.cause.WktCause.TheVariants.{Truncated, NotWhole, OutOfRange, TooDeep, TooFew, Unclosed, Empty, Trailing, Unknown}
 use Rattle.isp_wkt.specs.declared.cause.Fault.{Fault}
 use Rattle.isp_wkt.specs.Grammar.{AreBlanks, value_of, IsFraction, IsSize, IsSign, IsNumber, IsPair, IsSingle, AreMembers, IsList, keeps, IsLine, AreLines, IsMarked}
-use Rattle.isp_wkt.specs.Faults.{EndsIn, IsOpening, BreaksNumber, PassesLimit, EndsFew, EndsOpen, IsNothing}
+use Rattle.isp_wkt.specs.Faults.{EndsIn, IsOpening, BreaksNumber, PassesLimit, EndsFew, EndsOpen}
 use Rattle.isp_wkt.specs.Reading.{◌>>=◌, Outcome, is_blank, is_digit, is_e, skipped, limit, digits_at, zeros_at, fraction_at, end_at, first_at, size_at, sign_at, number_at, blank_at, point_at, inside_at, paren_at, open_at, comma_at, more_at, shut_at, close_at, member_at, items_at, list_at, ruled, line_at, lines_at, single_at, marked_at}
 use Rattle.isp_wkt.proofs.Sound.{bind_ok, chosen, ok_parts, is_it, Took, IsSound, skipped_back, StartsDigit, Digits, digits_back, fraction_back, first_back, size_sound, sign_back, number_sound, blank_back, open_back, Goes, more_back, point_sound, list_sound, single_sound, marked_sound, line_sound, lines_sound}
 
@@ -35,21 +35,22 @@ bind_err (Err d) k f e = inl (ap (λ (g : Fault). Err g) (err_is d f e))
 abbrev pub Starts : {X : Type 0} → (X → List ℕ → Type 0) → List ℕ → Type 0
 Starts {X} Lang front = (more : List ℕ) × (x : X) × Lang x (front ++ more)
 
--- what the cause of a fault says of the bytes before it and the byte at it, where TooDeep says this of both together
-abbrev pub Reason : (List ℕ → Type 0) → WktCause → ℕ → List ℕ → Type 0
-Reason Deep Truncated b front = ⊥
-Reason Deep NotWhole b front = EndsIn (BreaksNumber b) front
-Reason Deep OutOfRange b front = EndsIn (PassesLimit b) front
-Reason Deep TooDeep b front = (b ≡ 40) × Deep (front ++ b ∷ [])
-Reason Deep TooFew b front = EndsIn (EndsFew b) front
-Reason Deep Unclosed b front = EndsIn (EndsOpen b) front
-Reason Deep Empty b front = EndsIn (IsNothing b) front
-Reason Deep Trailing b front = ⊥
-Reason Deep Unknown b front = Unit {0}
+-- what the cause of a fault says of the bytes before it and the byte at it, where `Good` is what the bytes before a fault are, and
+-- `Deep` those and a `(` that is too deep
+abbrev pub Reason : (List ℕ → Type 0) → (List ℕ → Type 0) → WktCause → ℕ → List ℕ → Type 0
+Reason Good Deep Truncated b front = ⊥
+Reason Good Deep NotWhole b front = EndsIn (BreaksNumber b) front
+Reason Good Deep OutOfRange b front = EndsIn (PassesLimit b) front
+Reason Good Deep TooDeep b front = (b ≡ 40) × Deep (front ++ b ∷ [])
+Reason Good Deep TooFew b front = EndsIn (EndsFew b) front
+Reason Good Deep Unclosed b front = EndsIn (EndsOpen b) front
+Reason Good Deep Empty b front = ((is_e b ≡ true) × (Good (front ++ 40 ∷ []) ⊎ Deep (front ++ 40 ∷ []))) ⊎ ((b ≡ 41) × EndsIn IsOpening front)
+Reason Good Deep Trailing b front = ⊥
+Reason Good Deep Unknown b front = Unit {0}
 
-abbrev pub Why : (List ℕ → Type 0) → WktCause → List ℕ → List ℕ → Type 0
-Why Deep c front [] = c ≡ Truncated
-Why Deep c front (b ∷ rest) = Reason Deep c b front
+abbrev pub Why : (List ℕ → Type 0) → (List ℕ → Type 0) → WktCause → List ℕ → List ℕ → Type 0
+Why Good Deep c front [] = c ≡ Truncated
+Why Good Deep c front (b ∷ rest) = Reason Good Deep c b front
 
 -- the bytes before a fault, and those from it on
 pub record Fall (Good Deep : List ℕ → Type 0) (bytes : List ℕ) (f : Fault) : Type 0 where
@@ -58,28 +59,34 @@ pub record Fall (Good Deep : List ℕ → Type 0) (bytes : List ℕ) (f : Fault)
   pub parts : bytes ≡ front ++ rest
   pub long : length rest ≡ f.left
   pub good : Good front
-  pub why : Why Deep f.cause front rest
+  pub why : Why Good Deep f.cause front rest
 
-pub fall_at : (Good Deep : List ℕ → Type 0) (c : WktCause) (front rest bytes : List ℕ) (f : Fault) → bytes ≡ front ++ rest → ◌≡◌ {A = Fault} (record { cause = c; left = length rest }) f → Good front → Why Deep c front rest → Fall Good Deep bytes f
+pub fall_at : (Good Deep : List ℕ → Type 0) (c : WktCause) (front rest bytes : List ℕ) (f : Fault) → bytes ≡ front ++ rest → ◌≡◌ {A = Fault} (record { cause = c; left = length rest }) f → Good front → Why Good Deep c front rest → Fall Good Deep bytes f
 fall_at Good Deep c front rest bytes f is e good why = subst (Fall Good Deep bytes) e (record { front = front; rest = rest; parts = is; long = refl; good = good; why = why })
 
 ends_behind : (Last : List ℕ → Type 0) (pre front : List ℕ) → EndsIn Last front → EndsIn Last (pre ++ front)
 ends_behind Last pre front w = (pre ++ w.0, w.1, ap (λ (t : List ℕ). pre ++ t) w.2 ∙ sym (append_assoc pre w.0 w.1), w.3)
 
-reason_behind : (Deep Next : List ℕ → Type 0) (pre front : List ℕ) → ((u : List ℕ) → Deep u → Next (pre ++ u)) → (c : WktCause) (b : ℕ) → Reason Deep c b front → Reason Next c b (pre ++ front)
-reason_behind Deep Next pre front lift Truncated b w = w
-reason_behind Deep Next pre front lift NotWhole b w = ends_behind (BreaksNumber b) pre front w
-reason_behind Deep Next pre front lift OutOfRange b w = ends_behind (PassesLimit b) pre front w
-reason_behind Deep Next pre front lift TooDeep b w = (w.0, subst Next (sym (append_assoc pre front (b ∷ []))) (lift (front ++ b ∷ []) w.1))
-reason_behind Deep Next pre front lift TooFew b w = ends_behind (EndsFew b) pre front w
-reason_behind Deep Next pre front lift Unclosed b w = ends_behind (EndsOpen b) pre front w
-reason_behind Deep Next pre front lift Empty b w = ends_behind (IsNothing b) pre front w
-reason_behind Deep Next pre front lift Trailing b w = w
-reason_behind Deep Next pre front lift Unknown b w = tt
+module _ (Good Next Deep Deeper : List ℕ → Type 0) (pre : List ℕ) (lift : (u : List ℕ) → Good u → Next (pre ++ u)) (deep : (u : List ℕ) → Deep u → Deeper (pre ++ u)) where
+  reason_behind : (front : List ℕ) (c : WktCause) (b : ℕ) → Reason Good Deep c b front → Reason Next Deeper c b (pre ++ front)
+  reason_behind front Truncated b w = w
+  reason_behind front NotWhole b w = ends_behind (BreaksNumber b) pre front w
+  reason_behind front OutOfRange b w = ends_behind (PassesLimit b) pre front w
+  reason_behind front TooDeep b w = (w.0, subst Deeper (sym (append_assoc pre front (b ∷ []))) (deep (front ++ b ∷ []) w.1))
+  reason_behind front TooFew b w = ends_behind (EndsFew b) pre front w
+  reason_behind front Unclosed b w = ends_behind (EndsOpen b) pre front w
+  reason_behind front Empty b (inl w) = inl (w.0, at w.1)
+    where
+      at : Good (front ++ 40 ∷ []) ⊎ Deep (front ++ 40 ∷ []) → Next ((pre ++ front) ++ 40 ∷ []) ⊎ Deeper ((pre ++ front) ++ 40 ∷ [])
+      at (inl g) = inl (subst Next (sym (append_assoc pre front (40 ∷ []))) (lift (front ++ 40 ∷ []) g))
+      at (inr g) = inr (subst Deeper (sym (append_assoc pre front (40 ∷ []))) (deep (front ++ 40 ∷ []) g))
+  reason_behind front Empty b (inr w) = inr (w.0, ends_behind IsOpening pre front w.1)
+  reason_behind front Trailing b w = w
+  reason_behind front Unknown b w = tt
 
-why_behind : (Deep Next : List ℕ → Type 0) (pre front : List ℕ) → ((u : List ℕ) → Deep u → Next (pre ++ u)) → (c : WktCause) (rest : List ℕ) → Why Deep c front rest → Why Next c (pre ++ front) rest
-why_behind Deep Next pre front lift c [] w = w
-why_behind Deep Next pre front lift c (b ∷ rest) w = reason_behind Deep Next pre front lift c b w
+  why_behind : (front : List ℕ) (c : WktCause) (rest : List ℕ) → Why Good Deep c front rest → Why Next Deeper c (pre ++ front) rest
+  why_behind front c [] w = w
+  why_behind front c (b ∷ rest) w = reason_behind front c b w
 
 -- a fault behind bytes that were read
 pub fall_behind : (Good Next Deep Deeper : List ℕ → Type 0) (pre bytes left : List ℕ) (f : Fault) → bytes ≡ pre ++ left → ((u : List ℕ) → Good u → Next (pre ++ u)) → ((u : List ℕ) → Deep u → Deeper (pre ++ u)) → Fall Good Deep left f → Fall Next Deeper bytes f
@@ -89,7 +96,7 @@ fall_behind Good Next Deep Deeper pre bytes left f is lift deep c = record {
   parts = is ∙ ap (λ (t : List ℕ). pre ++ t) c.parts ∙ sym (append_assoc pre c.front c.rest);
   long = c.long;
   good = lift c.front c.good;
-  why = why_behind Deep Deeper pre c.front deep f.cause c.rest c.why;
+  why = why_behind Good Next Deep Deeper pre lift deep c.front f.cause c.rest c.why;
 }
 
 pub fall_as : (Good Next Deep Deeper : List ℕ → Type 0) (bytes : List ℕ) (f : Fault) → ((u : List ℕ) → Good u → Next u) → ((u : List ℕ) → Deep u → Deeper u) → Fall Good Deep bytes f → Fall Next Deeper bytes f
@@ -102,7 +109,7 @@ Never u = ⊥
 abbrev pub Cut : (List ℕ → Type 0) → List ℕ → Fault → Type 0
 Cut Good bytes f = Fall Good Never bytes f
 
-pub cut_at : (Good : List ℕ → Type 0) (c : WktCause) (front rest bytes : List ℕ) (f : Fault) → bytes ≡ front ++ rest → ◌≡◌ {A = Fault} (record { cause = c; left = length rest }) f → Good front → Why Never c front rest → Cut Good bytes f
+pub cut_at : (Good : List ℕ → Type 0) (c : WktCause) (front rest bytes : List ℕ) (f : Fault) → bytes ≡ front ++ rest → ◌≡◌ {A = Fault} (record { cause = c; left = length rest }) f → Good front → Why Good Never c front rest → Cut Good bytes f
 cut_at Good c front rest bytes f is e good why = fall_at Good Never c front rest bytes f is e good why
 
 pub behind : (Good Next : List ℕ → Type 0) (pre bytes left : List ℕ) (f : Fault) → bytes ≡ pre ++ left → ((u : List ℕ) → Good u → Next (pre ++ u)) → Cut Good left f → Cut Next bytes f
@@ -316,33 +323,37 @@ inside_shut nothing (b ∷ bs) f e =
       | inr h ↦ no_err _ f h.1
     ]
 
-paren_open : (nothing : WktCause) → ((last : List ℕ) → IsOpening last → Reason Never nothing 41 last) → (bs : List ℕ) (f : Fault) → paren_at nothing bs ≡ Err f → Cut (λ u. (u ≡ []) ⊎ IsOpening u) bs f
-paren_open nothing says [] f e = cut_at (λ u. (u ≡ []) ⊎ IsOpening u) Truncated [] [] [] f refl (err_is _ f e) (inl refl) refl
+-- nothing, or an opening parenthesis with blanks behind it
+abbrev pub Parened : List ℕ → Type 0
+Parened u = (u ≡ []) ⊎ IsOpening u
+
+paren_open : (nothing : WktCause) → ((last : List ℕ) → IsOpening last → Reason Parened Never nothing 41 last) → (bs : List ℕ) (f : Fault) → paren_at nothing bs ≡ Err f → Cut Parened bs f
+paren_open nothing says [] f e = cut_at Parened Truncated [] [] [] f refl (err_is _ f e) (inl refl) refl
 paren_open nothing says (b ∷ bs) f e =
     elim (chosen (b == 40) _ _ _ e) [
       | inl h ↦ let r = skipped_back bs in
           let s = inside_shut nothing (skipped bs) f h.1 in
           let is : IsOpening (40 ∷ r.0) = (r.0, refl, r.2) in
-          cut_at (λ u. (u ≡ []) ⊎ IsOpening u) nothing (40 ∷ r.0) (41 ∷ s.0) (b ∷ bs) f (ap (λ (c : ℕ). c ∷ bs) (is_it b 40 h.0) ∙ ap (λ (t : List ℕ). 40 ∷ t) (r.1 ∙ ap (λ (t : List ℕ). r.0 ++ t) s.1)) s.2 (inr is) (says (40 ∷ r.0) is)
+          cut_at Parened nothing (40 ∷ r.0) (41 ∷ s.0) (b ∷ bs) f (ap (λ (c : ℕ). c ∷ bs) (is_it b 40 h.0) ∙ ap (λ (t : List ℕ). 40 ∷ t) (r.1 ∙ ap (λ (t : List ℕ). r.0 ++ t) s.1)) s.2 (inr is) (says (40 ∷ r.0) is)
       | inr h ↦ elim (chosen (is_e b) _ _ _ h.1) [
-        | inl k ↦ cut_at (λ u. (u ≡ []) ⊎ IsOpening u) Empty [] (b ∷ bs) (b ∷ bs) f refl (err_is _ f k.1) (inl refl) ([], [], refl, inl k.0)
-        | inr k ↦ cut_at (λ u. (u ≡ []) ⊎ IsOpening u) Unknown [] (b ∷ bs) (b ∷ bs) f refl (err_is _ f k.1) (inl refl) tt
+        | inl k ↦ cut_at Parened Empty [] (b ∷ bs) (b ∷ bs) f refl (err_is _ f k.1) (inl refl) (inl (k.0, inl (inr ([], refl, refl))))
+        | inr k ↦ cut_at Parened Unknown [] (b ∷ bs) (b ∷ bs) f refl (err_is _ f k.1) (inl refl) tt
       ]
     ]
 
-opening_of : (blanks u : List ℕ) → AreBlanks blanks → (u ≡ []) ⊎ IsOpening u → Opening (blanks ++ u)
+opening_of : (blanks u : List ℕ) → AreBlanks blanks → Parened u → Opening (blanks ++ u)
 opening_of blanks u h (inl e) = record { tail = 40 ∷ []; before = blanks; opened = []; parts = append_assoc blanks u (40 ∷ []) ∙ ap (λ (t : List ℕ). blanks ++ (t ++ 40 ∷ [])) e; blank = (h, refl) }
 opening_of blanks u h (inr o) = record { tail = []; before = blanks; opened = o.0; parts = append-nil (blanks ++ u) ∙ ap (λ (t : List ℕ). blanks ++ t) o.1; blank = (h, o.2) }
 
-pub open_open : (nothing : WktCause) → ((last : List ℕ) → IsOpening last → Reason Never nothing 41 last) → (bytes : List ℕ) (f : Fault) → open_at nothing bytes ≡ Err f → Cut Opening bytes f
+pub open_open : (nothing : WktCause) → ((last : List ℕ) → IsOpening last → Reason Parened Never nothing 41 last) → (bytes : List ℕ) (f : Fault) → open_at nothing bytes ≡ Err f → Cut Opening bytes f
 open_open nothing says bytes f e =
     let r = skipped_back bytes in
-    behind (λ u. (u ≡ []) ⊎ IsOpening u) Opening r.0 bytes (skipped bytes) f r.1 (λ u g. opening_of r.0 u r.2 g) (paren_open nothing says (skipped bytes) f e)
+    behind Parened Opening r.0 bytes (skipped bytes) f r.1 (λ u g. opening_of r.0 u r.2 g) (paren_open nothing says (skipped bytes) f e)
 
-pub says_empty : (last : List ℕ) → IsOpening last → Reason Never Empty 41 last
-says_empty last o = ([], last, refl, inr (refl, o))
+pub says_empty : (last : List ℕ) → IsOpening last → Reason Parened Never Empty 41 last
+says_empty last o = inr (refl, ([], last, refl, o))
 
-says_few : (last : List ℕ) → IsOpening last → Reason Never TooFew 41 last
+says_few : (last : List ℕ) → IsOpening last → Reason Parened Never TooFew 41 last
 says_few last o = ([], last, refl, (refl, inl o))
 
 comma_open : (bs : List ℕ) (f : Fault) → comma_at bs ≡ Err f → Cut Nothing bs f
@@ -436,7 +447,7 @@ module _ {X : Type 0} (Lang : X → List ℕ → Type 0) (item : List ℕ → Ou
         ]
       ]
 
-  pub list_open : (nothing : WktCause) → ((last : List ℕ) → IsOpening last → Reason Never nothing 41 last) → (bytes : List ℕ) (f : Fault) → list_at nothing item bytes ≡ Err f → Fall All DeepAll bytes f
+  pub list_open : (nothing : WktCause) → ((last : List ℕ) → IsOpening last → Reason Parened Never nothing 41 last) → (bytes : List ℕ) (f : Fault) → list_at nothing item bytes ≡ Err f → Fall All DeepAll bytes f
   unfolding list_at
   list_open nothing says bytes f e =
       elim (bind_err (open_at nothing bytes) _ f e) [
@@ -660,16 +671,16 @@ shut_off (x ∷ y ∷ xs) t m =
     open_next x m.0 m.1 m.2 r.0 m.5 m.6 m.7 r.2)
 
 -- a list of points that breaks a rule
-abbrev Breaks : List p.Point → List ℕ → Fault → Type 0
-Breaks ps left f =
-    (c : WktCause) × (◌≡◌ {A = Fault} (record { cause = c; left = length left + 1 }) f) × ((t : List ℕ) → IsList IsPair ps (t ++ 41 ∷ []) → Reason Never c 41 t)
+abbrev Breaks : (List ℕ → Type 0) → List p.Point → List ℕ → Fault → Type 0
+Breaks Good ps left f =
+    (c : WktCause) × (◌≡◌ {A = Fault} (record { cause = c; left = length left + 1 }) f) × ((t : List ℕ) → IsList IsPair ps (t ++ 41 ∷ []) → Reason Good Never c 41 t)
 
 few_of : (n : ℕ) (is_ring : Bool) → nat_lt n (cond is_ring 4 2) ≡ true → n < 4
 few_of n true h = grind (arith, nat_tests)
 few_of n false h = grind (arith, nat_tests)
 
-ruled_breaks : (is_ring : Bool) (ps : List p.Point) (left : List ℕ) (f : Fault) → ruled is_ring ps left ≡ Err f → Breaks ps left f
-ruled_breaks true ps left f e =
+ruled_breaks : (Good : List ℕ → Type 0) (is_ring : Bool) (ps : List p.Point) (left : List ℕ) (f : Fault) → ruled is_ring ps left ≡ Err f → Breaks Good ps left f
+ruled_breaks Good true ps left f e =
     elim (chosen (nat_lt (length ps) 4) _ _ _ e) [
       | inl h ↦ (TooFew, err_is _ f h.1, λ t m. ([], t, refl, (refl, inr (ps, m, few_of (length ps) true h.0))))
       | inr h ↦ elim (chosen (not (is_closed ps)) _ _ _ h.1) [
@@ -684,7 +695,7 @@ ruled_breaks true ps left f e =
     unclosed : (t : Bool) → not t ≡ true → t ≡ false
     unclosed true h = absurd cc
     unclosed false h = refl
-ruled_breaks false ps left f e =
+ruled_breaks Good false ps left f e =
     elim (chosen (nat_lt (length ps) 2) _ _ _ e) [
       | inl h ↦ (TooFew, err_is _ f h.1, λ t m. ([], t, refl, (refl, inr (ps, m, few_of (length ps) false h.0))))
       | inr h ↦ no_err _ f h.1
@@ -692,7 +703,7 @@ ruled_breaks false ps left f e =
 
 ruled_open : (is_ring : Bool) (ps : List p.Point) (t left bytes : List ℕ) (f : Fault) → bytes ≡ t ++ left → IsList IsPair ps t → ruled is_ring ps left ≡ Err f → Cut (Starts (IsLine is_ring)) bytes f
 ruled_open is_ring ps t left bytes f is m e =
-    let b = ruled_breaks is_ring ps left f e in
+    let b = ruled_breaks (Starts (IsLine is_ring)) is_ring ps left f e in
     let s = shut_off ps m.inside m.members in
     let front : List ℕ = m.before ++ 40 ∷ (m.opened ++ s.0) in
     let whole : t ≡ front ++ 41 ∷ [] = m.parts ∙ ap (λ (v : List ℕ). m.before ++ 40 ∷ v) (ap (λ (v : List ℕ). m.opened ++ v) s.1 ∙ sym (append_assoc m.opened s.0 (41 ∷ []))) ∙ sym (append_assoc m.before (40 ∷ (m.opened ++ s.0)) (41 ∷ [])) in

@@ -250,7 +250,7 @@ deep_paren_open (b ∷ bs) f e =
     elim (chosen (b == 40) _ _ _ e) [
       | inl h ↦ let is = is_it b 40 h.0 in fall_at Nothing Paren TooDeep [] (b ∷ bs) (b ∷ bs) f refl (err_is _ f h.1) refl (is, ap (λ (c : ℕ). c ∷ []) is)
       | inr h ↦ elim (chosen (is_e b) _ _ _ h.1) [
-        | inl k ↦ fall_at Nothing Paren Empty [] (b ∷ bs) (b ∷ bs) f refl (err_is _ f k.1) refl ([], [], refl, inl k.0)
+        | inl k ↦ fall_at Nothing Paren Empty [] (b ∷ bs) (b ∷ bs) f refl (err_is _ f k.1) refl (inl (k.0, inr refl))
         | inr k ↦ fall_at Nothing Paren Unknown [] (b ∷ bs) (b ∷ bs) f refl (err_is _ f k.1) refl tt
       ]
     ]

@@ -16,7 +16,7 @@ use Rattle.isp_wkt.specs.Faults.{Begins, GoesOn, IsFaultPlace, IsCollectionWord,
 use Rattle.isp_wkt.specs.Reading.{Outcome, is_blank, text_at, fault_in, fault_of}
 use Rattle.isp_wkt.proofs.Sound.{is_it}
 use Rattle.isp_wkt.proofs.SoundForms.{text_of, text_sound_of, text_sound}
-use Rattle.isp_wkt.proofs.CompleteForms.{text_again, no_fault}
+use Rattle.isp_wkt.proofs.CompleteForms.{text_again, text_behind, no_fault}
 use Rattle.isp_wkt.proofs.LocalForms.{front_before, front_behind}
 use Rattle.isp_wkt.proofs.Opens.{err_is, Why, Fall, shorter}
 use Rattle.isp_wkt.proofs.OpensForms.{text_more, TextGoes, Behind, text_open}
@@ -131,7 +131,11 @@ pub record Placed (text : List ℕ) (f : Fault) : Type 0 where
   pub goes : TextGoes 8 front
   pub cause : IsCause f.cause front rest
 
-as_cause : (c : WktCause) (front rest : List ℕ) → Why (Begins 10) c front rest → IsCause c front rest
+deep_begins : (front : List ℕ) → TextGoes 8 front ⊎ Begins 10 front → Begins 10 front
+deep_begins front (inl g) = (goes_on front g).begins
+deep_begins front (inr g) = g
+
+as_cause : (c : WktCause) (front rest : List ℕ) → Why (TextGoes 8) (Begins 10) c front rest → IsCause c front rest
 as_cause c front [] w = w
 as_cause Truncated front (b ∷ rest) w = w
 as_cause NotWhole front (b ∷ rest) w = w
@@ -139,7 +143,8 @@ as_cause OutOfRange front (b ∷ rest) w = w
 as_cause TooDeep front (b ∷ rest) w = w
 as_cause TooFew front (b ∷ rest) w = w
 as_cause Unclosed front (b ∷ rest) w = w
-as_cause Empty front (b ∷ rest) w = w
+as_cause Empty front (b ∷ rest) (inl w) = inl (w.0, deep_begins (front ++ 40 ∷ []) w.1)
+as_cause Empty front (b ∷ rest) (inr w) = inr w
 as_cause Trailing front (b ∷ rest) w = absurd w
 as_cause Unknown front (b ∷ rest) w = w
 
@@ -238,3 +243,49 @@ faults_outside text = (there (text_at text) refl, λ m. ap (fault_in (length tex
     there : (o : Outcome Form) → text_at text ≡ o → fault_of text ≡ None → (form : Form) × IsText form text
     there (Ok x) e h = (x.0, text_sound text x.0 x.1 e)
     there (Err f) e h = let no : ◌≡◌ {A = Option (WktCause × ℕ)} (Some (f.cause, length text - f.left)) None = ap (fault_in (length text)) (sym e) ∙ h in absurd cc
+
+-- ---- causes from what stands there
+
+-- a text that ends too early
+pub ends_early : (text : List ℕ) → GoesOn text → ((form : Form) → IsText form text → ⊥) → fault_of text ≡ Some (Truncated, length text)
+ends_early text g outside = at (text_at text) refl
+  where
+    at : (o : Outcome Form) → text_at text ≡ o → fault_of text ≡ Some (Truncated, length text)
+    at (Ok x) e = absurd (outside x.0 (text_sound text x.0 x.1 e))
+    at (Err f) e =
+        let h : fault_of text ≡ Some (f.cause, length text - f.left) = ap (fault_in (length text)) e in
+        let p = fault_place text f.cause (length text - f.left) h in
+        let whole : take (length text) text ≡ text = ap (take (length text)) (sym (append-nil text)) ∙ take_at text [] (length text) refl in
+        let end : length text - f.left ≡ length text = omega (arith, longest_front text (length text - f.left) (length text) p (omega arith) (subst GoesOn (sym whole) g), p.within) in
+        let rest : drop (length text) text ≡ [] = ap (drop (length text)) (sym (append-nil text)) ∙ drop_at text [] (length text) refl in
+        let why : IsCause f.cause (take (length text) text) (drop (length text) text) = subst (λ (n : ℕ). IsCause f.cause (take n text) (drop n text)) end (fault_cause text f.cause (length text - f.left) h) in
+        let cause : IsCause f.cause (take (length text) text) [] = subst (IsCause f.cause (take (length text) text)) rest why in
+        h ∙ ap (λ (c : WktCause). Some (c, length text - f.left)) cause ∙ ap (λ (n : ℕ). Some (Truncated, n)) end
+
+-- a byte at a fault that goes on where one level more is allowed
+pub goes_deeper : (text : List ℕ) (cause : WktCause) (at : ℕ) → fault_of text ≡ Some (cause, at) → at < length text → Begins 10 (take (at + 1) text) → cause ≡ TooDeep
+goes_deeper text cause at h lt g =
+    let f = faulty text cause at (text_at text) refl h in
+    let e : text_of 8 text ≡ Err f.0 = sym (text_is text) ∙ f.1 in
+    let p = placed text f.0 e in
+    sym f.3 ∙ by f.0 p.front p.rest e p.parts p.long (placed_at text f.0 at p f.2) (text_agrees 8 text)
+  where
+    by : (f : Fault) (front rest : List ℕ) → text_of 8 text ≡ Err f → text ≡ front ++ rest → length rest ≡ f.left → length front ≡ at → Agrees (text_of 8 text) (text_of 9 text) → f.cause ≡ TooDeep
+    by f front [] e parts long is a = absurd (omega (arith, ap length parts, length-append front []))
+    by f front (b ∷ rest) e parts long is (inr y) = ap (λ (h : Fault). h.cause) (err_is f y.0 (sym e ∙ y.1)) ∙ y.2
+    by f front (b ∷ rest) e parts long is (inl same) =
+        let one : length (front ++ b ∷ []) ≡ at + 1 = omega (arith, length-append front (b ∷ [])) in
+        let taken : take (at + 1) text ≡ front ++ b ∷ [] = ap (take (at + 1)) (parts ∙ sym (append_assoc front (b ∷ []) rest)) ∙ take_at (front ++ b ∷ []) rest (at + 1) one in
+        let k : Begins 10 (front ++ b ∷ []) = subst (Begins 10) taken g in
+        absurd (stops_of 9 front rest k.0 b f k.1 (ap (text_of 9) (sym parts) ∙ sym same ∙ e) (omega (arith, long)) k.2)
+
+pub stands_behind : (form : Form) (front rest : List ℕ) (b : ℕ) → IsText form front → is_blank b ≡ false → fault_of (front ++ b ∷ rest) ≡ Some (Trailing, length front)
+stands_behind form front rest b m h =
+    let at : length (front ++ b ∷ rest) - length (b ∷ rest) ≡ length front = omega (arith, length-append front (b ∷ rest)) in
+    ap (fault_in (length (front ++ b ∷ rest))) (text_behind form front rest b m h) ∙ ap (λ (n : ℕ). Some (Trailing, n)) at
+
+-- what a text that has this fault is answered
+pub stands : (text : List ℕ) (f : Fault) (at : ℕ) → text_at text ≡ Err f → at ≡ length text - f.left → IsFaultPlace text at × IsCause f.cause (take at text) (drop at text)
+stands text f at e is =
+    let h : fault_of text ≡ Some (f.cause, at) = ap (fault_in (length text)) e ∙ ap (λ (n : ℕ). Some (f.cause, n)) (sym is) in
+    (fault_place text f.cause at h, fault_cause text f.cause at h)

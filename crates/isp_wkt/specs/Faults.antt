@@ -1,12 +1,14 @@
 -- When the front of a text still goes on, where the fault of a text stands, and what its cause says of the bytes there:
 -- all by the grammar, and not by a way of reading (the rules are this project's own).
-use Rattle.std.specs.Prelude.{◌≡◌, ℕ, ◌+◌, ◌-◌, ◌*◌, ◌<◌, ◌≤◌, ◌==◌, ℤ, true, false, ◌⊎◌, List, [], ◌∷◌, ◌++◌, length, map, take}
+use Rattle.std.specs.Prelude.{◌≡◌, ℕ, ◌+◌, ◌-◌, ◌*◌, ◌<◌, ◌≤◌, ◌==◌, ℤ, true, false, ◌⊎◌, List, [], ◌∷◌, ◌++◌, length, map, take, drop, Result, Ok, Err}
 use Rattle.std.specs.List.{list_all}
 use Rattle.isp_geom.specs.declared.form.Point as p
 use Rattle.isp_geom.specs.declared.form.Form.{Form}
 use Rattle.isp_geom.specs.Rules.{is_closed}
 use Rattle.isp_wkt.specs.declared.cause.WktCause.{WktCause}
 use Rattle.isp_wkt.specs.declared.cause.WktCause.TheVariants.{Truncated, NotWhole, OutOfRange, TooDeep, TooFew, Unclosed, Empty, Trailing, Unknown}
+use Rattle.isp_wkt.specs.declared.cause.WktError.{WktError}
+use Rattle.isp_wkt.specs.declared.cause.WktError.TheVariants as errors
 use Rattle.isp_wkt.specs.declared.kind.Kind.TheVariants as kind
 use Rattle.isp_wkt.specs.Words.{word, upper}
 use Rattle.isp_wkt.specs.Reading.{is_blank, is_digit, is_e, limit}
@@ -77,9 +79,9 @@ EndsFew b text = (b ≡ 41) × (IsOpening text ⊎ ((ps : List p.Point) × IsLis
 abbrev pub EndsOpen : ℕ → List ℕ → Type 0
 EndsOpen b text = (b ≡ 41) × (ps : List p.Point) × IsList IsPair ps (text ++ 41 ∷ []) × (4 ≤ length ps) × (is_closed ps ≡ false)
 
--- E or e, or a parenthesis with nothing but blanks between it and the last opening one
+-- E or e where a `(` could stand, or a parenthesis with nothing but blanks between it and the last opening one
 abbrev pub IsNothing : ℕ → List ℕ → Type 0
-IsNothing b text = (is_e b ≡ true) ⊎ ((b ≡ 41) × IsOpening text)
+IsNothing b front = ((is_e b ≡ true) × Begins 10 (front ++ 40 ∷ [])) ⊎ ((b ≡ 41) × EndsIn IsOpening front)
 
 -- What a cause says of the bytes before its place and of those from the place on.
 abbrev pub IsCause : WktCause → List ℕ → List ℕ → Type 0
@@ -90,6 +92,12 @@ IsCause OutOfRange front (b ∷ rest) = EndsIn (PassesLimit b) front
 IsCause TooDeep front (b ∷ rest) = (b ≡ 40) × Begins 10 (front ++ b ∷ [])
 IsCause TooFew front (b ∷ rest) = EndsIn (EndsFew b) front
 IsCause Unclosed front (b ∷ rest) = EndsIn (EndsOpen b) front
-IsCause Empty front (b ∷ rest) = EndsIn (IsNothing b) front
+IsCause Empty front (b ∷ rest) = IsNothing b front
 IsCause Trailing front (b ∷ rest) = (is_blank b ≡ false) × (form : Form) × IsText form front
 IsCause Unknown front (b ∷ rest) = Unit {0}
+
+-- the place and the cause that a text was answered
+abbrev pub StandsAt : {X : Type 0} → Result X WktError → List ℕ → Type 0
+StandsAt (Ok value) text = Unit {0}
+StandsAt (Err (errors.Bad cause at)) text = IsFaultPlace text at × IsCause cause (take at text) (drop at text)
+StandsAt (Err errors.OutOfMemory) text = Unit {0}

@@ -1,12 +1,13 @@
 -- What holds of all texts.
-use Rattle.std.specs.Prelude.{◌≡◌, ℕ, ◌+◌, ◌<◌, ◌≤◌, ◌⊎◌, ◌↔◌, List, ◌++◌, length, take, drop, Some, None}
+use Rattle.std.specs.Prelude.{◌≡◌, ℕ, ◌+◌, ◌<◌, ◌≤◌, ◌⊎◌, ◌↔◌, List, [], ◌∷◌, ◌++◌, false, length, take, drop, Some, None}
 use Rattle.isp_geom.specs.declared.form.Form.{Form}
 use Rattle.isp_geom.specs.Rules.{IsGeometry}
 use Rattle.isp_wkt.specs.Faults.{Begins, GoesOn, IsFaultPlace, EndsInNinth, IsCause}
 use Rattle.isp_wkt.specs.Grammar.{IsText}
 use Rattle.isp_wkt.specs.Printed.{printed}
-use Rattle.isp_wkt.specs.Reading.{fault_of}
+use Rattle.isp_wkt.specs.Reading.{is_blank, fault_of}
 use Rattle.isp_wkt.specs.declared.cause.WktCause.{WktCause}
+use Rattle.isp_wkt.specs.declared.cause.WktCause.TheVariants.{Truncated, TooDeep, Trailing}
 
 -- a text means one geometry at most
 abbrev pub OneMeaning : Type 0
@@ -29,17 +30,30 @@ FaultsOutside = (text : List ℕ) → (fault_of text ≡ None) ↔ ((form : Form
 abbrev pub FaultPlaces : Type 0
 FaultPlaces = (text : List ℕ) (cause : WktCause) (at : ℕ) → fault_of text ≡ Some (cause, at) → IsFaultPlace text at
 
--- the place of a fault is behind each front that goes on, so that there is one at most
+-- that place is behind each front that goes on
 abbrev pub LongestFront : Type 0
 LongestFront = (text : List ℕ) (at n : ℕ) → IsFaultPlace text at → n ≤ length text → GoesOn (take n text) → n ≤ at
 
+-- a text has one such place at most
 abbrev pub OneFaultPlace : Type 0
 OneFaultPlace = (text : List ℕ) (a b : ℕ) → IsFaultPlace text a → IsFaultPlace text b → a ≡ b
 
--- what goes on: fronts of texts of the grammar, and those that end in the word of a ninth collection
+-- what goes on: the fronts of texts of the grammar, and those that end in the word of a ninth collection
 abbrev pub FrontsGoOn : Type 0
 FrontsGoOn = (front : List ℕ) → GoesOn front ↔ (Begins 9 front ⊎ EndsInNinth front)
 
--- the cause of a fault says what is true of the bytes round its place
-abbrev pub FaultCauses : Type 0
-FaultCauses = (text : List ℕ) (cause : WktCause) (at : ℕ) → fault_of text ≡ Some (cause, at) → IsCause cause (take at text) (drop at text)
+-- what the cause of a fault says of the bytes round its place is true
+abbrev pub CausesHold : Type 0
+CausesHold = (text : List ℕ) (cause : WktCause) (at : ℕ) → fault_of text ≡ Some (cause, at) → IsCause cause (take at text) (drop at text)
+
+-- a text that goes on and means no geometry is Truncated at its end
+abbrev pub EndsEarly : Type 0
+EndsEarly = (text : List ℕ) → GoesOn text → ((form : Form) → IsText form text → ⊥) → fault_of text ≡ Some (Truncated, length text)
+
+-- a byte other than a blank behind a text of the grammar is Trailing
+abbrev pub StandsBehind : Type 0
+StandsBehind = (form : Form) (front rest : List ℕ) (b : ℕ) → IsText form front → is_blank b ≡ false → fault_of (front ++ b ∷ rest) ≡ Some (Trailing, length front)
+
+-- a byte at a fault that goes on where collections may nest one deeper is TooDeep
+abbrev pub GoesDeeper : Type 0
+GoesDeeper = (text : List ℕ) (cause : WktCause) (at : ℕ) → fault_of text ≡ Some (cause, at) → at < length text → Begins 10 (take (at + 1) text) → cause ≡ TooDeep
