@@ -7,7 +7,7 @@ use Rattle.isp_wkt.specs.declared.cause.WktCause.TheVariants.{TooDeep, Empty, Un
 use Rattle.isp_wkt.specs.declared.cause.Fault.{Fault}
 use Rattle.isp_wkt.specs.declared.kind.Kind.{Kind}
 use Rattle.isp_wkt.specs.declared.kind.Kind.TheVariants as kind
-use Rattle.isp_wkt.specs.Reading.{◌>>=◌, Outcome, fault, is_e, skipped, inside_at, paren_at, open_at, more_at, member_at, items_at, list_at, word_in, kinds, made, body_at, deep_at, deep_paren_at, geometry_at, members_at, rest_at}
+use Rattle.isp_wkt.specs.Reading.{◌>>=◌, Outcome, fault, is_e, skipped, inside_at, paren_at, open_at, more_at, member_at, items_at, list_at, word_in, kinds, body_at, deep_paren_at, geometry_at, members_at, rest_at}
 use Rattle.isp_wkt.proofs.SoundForms.{text_of}
 
 -- the same outcome, or TooDeep

@@ -14,7 +14,7 @@ use Rattle.isp_wkt.specs.declared.kind.Kind.{Kind}
 use Rattle.isp_wkt.specs.declared.kind.Kind.TheVariants as kind
 use Rattle.isp_wkt.specs.Words.{word, common, upper}
 use Rattle.isp_wkt.specs.Grammar.{IsPair, IsList}
-use Rattle.isp_wkt.specs.Reading.{◌>>=◌, Outcome, fault, is_e, skipped, size_at, number_at, point_at, open_at, deep_paren_at, comma_at, more_at, member_at, items_at, list_at, ruled, line_at, lines_at, single_at, marked_at, word_in, unknown_at, kinds, made, body_at, deep_at, geometry_at, members_at, rest_at, text_at}
+use Rattle.isp_wkt.specs.Reading.{◌>>=◌, Outcome, fault, is_e, skipped, size_at, number_at, point_at, open_at, deep_paren_at, comma_at, more_at, member_at, items_at, list_at, ruled, line_at, lines_at, single_at, marked_at, word_in, unknown_at, kinds, made, body_at, deep_at, geometry_at, members_at, rest_at}
 use Rattle.isp_wkt.proofs.Sound.{ok_parts, bind_ok, list_sound, point_sound, word_sound, chosen}
 use Rattle.isp_wkt.proofs.Complete.{if_true, pair_complete, list_again}
 use Rattle.isp_wkt.proofs.SoundForms.{text_of}

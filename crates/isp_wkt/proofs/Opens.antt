@@ -1,6 +1,6 @@
 -- Where a reader finds a fault, the bytes before it can be completed, and the bytes there are as the cause says: numbers,
 -- points, lists and lines.
-use Rattle.std.proofs.Common.{◌≡◌, ℕ, ℤ, pos, zero, suc, ◌+◌, ◌-◌, ◌*◌, ◌<◌, ◌≤◌, ◌==◌, ◌&&◌, nat_le, nat_lt, not, Bool, true, false, cond, ◌⊎◌, inl, inr, List, [], ◌∷◌, ◌++◌, length, slice_get, Option, Some, Result, Ok, Err, refl, sym, ap, subst, ◌∙◌, append_assoc, arith, length-append}
+use Rattle.std.proofs.Common.{◌≡◌, ℕ, ℤ, pos, zero, suc, ◌+◌, ◌-◌, ◌*◌, ◌<◌, ◌≤◌, ◌==◌, ◌&&◌, nat_le, nat_lt, not, Bool, true, false, cond, ◌⊎◌, inl, inr, List, [], ◌∷◌, ◌++◌, length, slice_get, Some, Result, Ok, Err, refl, sym, ap, subst, ◌∙◌, append_assoc, arith, length-append}
 use Rattle.std.specs.List.{fold, list_all}
 use Rattle.std.proofs.lemmas.Bool.Decides.{nat_tests}
 use Rattle.std.proofs.lemmas.Cmp.{int_eq_equiv}
@@ -14,7 +14,7 @@ use Rattle.isp_wkt.specs.declared.cause.Fault.{Fault}
 use Rattle.isp_wkt.specs.Grammar.{AreBlanks, value_of, IsFraction, IsSize, IsSign, IsNumber, IsPair, IsSingle, AreMembers, IsList, keeps, IsLine, AreLines, IsMarked}
 use Rattle.isp_wkt.specs.Faults.{EndsIn, IsOpening, BreaksNumber, PassesLimit, EndsFew, EndsOpen}
 use Rattle.isp_wkt.specs.Reading.{◌>>=◌, Outcome, is_blank, is_digit, is_e, skipped, limit, digits_at, zeros_at, fraction_at, end_at, first_at, size_at, sign_at, number_at, blank_at, point_at, inside_at, paren_at, open_at, comma_at, more_at, shut_at, close_at, member_at, items_at, list_at, ruled, line_at, lines_at, single_at, marked_at}
-use Rattle.isp_wkt.proofs.Sound.{bind_ok, chosen, ok_parts, is_it, Took, IsSound, skipped_back, StartsDigit, Digits, digits_back, fraction_back, first_back, size_sound, sign_back, number_sound, blank_back, open_back, Goes, more_back, point_sound, list_sound, single_sound, marked_sound, line_sound, lines_sound}
+use Rattle.isp_wkt.proofs.Sound.{bind_ok, chosen, ok_parts, is_it, IsSound, skipped_back, StartsDigit, digits_back, fraction_back, first_back, sign_back, number_sound, blank_back, open_back, Goes, more_back, point_sound, list_sound, line_sound}
 
 -- ---- outcomes
 

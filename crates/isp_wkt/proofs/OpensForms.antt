@@ -1,23 +1,22 @@
 -- The bytes before a fault of words, forms and texts can be completed, where texts may have one level more.
-use Rattle.std.proofs.Common.{◌≡◌, ℕ, zero, suc, ◌+◌, ◌<◌, ◌≤◌, ◌==◌, max, Bool, true, false, cond, ◌⊎◌, inl, inr, List, [], ◌∷◌, ◌++◌, length, take, drop, map, Result, Ok, Err, refl, sym, ap, subst, ◌∙◌, append_assoc, arith, length-append}
+use Rattle.std.proofs.Common.{◌≡◌, ℕ, zero, suc, ◌≤◌, ◌==◌, max, Bool, true, false, cond, ◌⊎◌, inl, inr, List, [], ◌∷◌, ◌++◌, length, take, drop, map, Ok, Err, refl, sym, ap, subst, ◌∙◌, append_assoc, arith}
 use Rattle.std.proofs.lemmas.Bool.{cases_lt}
 use Rattle.std.proofs.lemmas.List.{append-nil, take-append-drop, map-append}
 use Rattle.isp_geom.specs.declared.form.Point as p
 use Rattle.isp_geom.specs.declared.form.Form.{Form, Form-F, out-Form}
 use Rattle.isp_geom.specs.declared.form.Form.TheVariants.{Point, LineString, Polygon, MultiPoint, MultiLineString, MultiPolygon, Collection, rolls-Point, rolls-LineString, rolls-Polygon, rolls-MultiPoint, rolls-MultiLineString, rolls-MultiPolygon, rolls-Collection}
-use Rattle.isp_wkt.specs.declared.cause.WktCause.{WktCause}
 use Rattle.isp_wkt.specs.declared.cause.WktCause.TheVariants.{Truncated, TooDeep, Empty, Trailing, Unknown}
 use Rattle.isp_wkt.specs.declared.cause.Fault.{Fault}
 use Rattle.isp_wkt.specs.declared.kind.Kind.{Kind}
 use Rattle.isp_wkt.specs.declared.kind.Kind.TheVariants as kind
 use Rattle.isp_wkt.specs.Words.{word, upper, common}
-use Rattle.isp_wkt.specs.Grammar.{AreBlanks, IsSingle, IsPair, AreMembers, IsList, IsLine, AreLines, IsMarked, IsWorded, IsLevel, Means, IsTextOf}
+use Rattle.isp_wkt.specs.Grammar.{AreBlanks, IsSingle, IsPair, AreMembers, IsList, IsLine, AreLines, IsMarked, IsLevel, Means, IsTextOf}
 use Rattle.isp_wkt.specs.Faults.{Begins, IsCollectionWord}
-use Rattle.isp_wkt.specs.Reading.{◌>>=◌, Outcome, is_blank, is_e, kinds, word_in, unknown_at, skipped, made, body_at, geometry_at, members_at, deep_at, deep_paren_at, list_at, single_at, line_at, lines_at, marked_at, rest_at}
-use Rattle.isp_wkt.proofs.Sound.{chosen, is_it, Took, IsSound, skipped_back, marked_sound, lines_sound, word_sound}
+use Rattle.isp_wkt.specs.Reading.{Outcome, is_blank, is_e, kinds, word_in, unknown_at, skipped, made, body_at, geometry_at, members_at, deep_at, deep_paren_at, list_at, single_at, line_at, lines_at, marked_at, rest_at}
+use Rattle.isp_wkt.proofs.Sound.{chosen, is_it, skipped_back, marked_sound, lines_sound, word_sound}
 use Rattle.isp_wkt.proofs.SoundForms.{Means-roll, geometry_sound, members_sound, text_of}
 use Rattle.isp_wkt.proofs.CompleteForms.{upper_again}
-use Rattle.isp_wkt.proofs.Opens.{err_is, no_err, bind_err, Starts, Never, Fall, fall_at, fall_behind, fall_as, never_deep, Cut, cut_at, weaken, Nothing, Opening, says_empty, Lifts, list_open, shorter, starts_lifts, start_members, start_whole, start_next, start_inside, list_default, list_starts, single_default, single_open, marked_default, marked_open, line_default, line_open, lines_default, lines_open}
+use Rattle.isp_wkt.proofs.Opens.{err_is, no_err, bind_err, Starts, Never, Fall, fall_at, fall_behind, fall_as, never_deep, Cut, cut_at, weaken, Nothing, says_empty, Lifts, list_open, shorter, starts_lifts, start_members, start_whole, start_next, start_inside, list_default, list_starts, single_default, single_open, marked_default, marked_open, line_default, line_open, lines_default, lines_open}
 
 -- ---- more levels
 

@@ -1,5 +1,5 @@
 -- What holds of all texts.
-use Rattle.std.specs.Prelude.{◌≡◌, ℕ, ◌+◌, ◌<◌, ◌≤◌, ◌⊎◌, ◌↔◌, List, [], ◌∷◌, ◌++◌, false, length, take, drop, Some, None}
+use Rattle.std.specs.Prelude.{◌≡◌, ℕ, ◌+◌, ◌<◌, ◌≤◌, ◌⊎◌, ◌↔◌, List, ◌∷◌, ◌++◌, false, length, take, drop, Some, None}
 use Rattle.isp_geom.specs.declared.form.Form.{Form}
 use Rattle.isp_geom.specs.Rules.{IsGeometry}
 use Rattle.isp_wkt.specs.Faults.{Begins, GoesOn, IsFaultPlace, EndsInNinth, IsCause}
