@@ -3,6 +3,7 @@ pub mod CompleteForms
 pub mod Deeper
 pub mod Local
 pub mod LocalForms
+pub mod Marks
 pub mod Opens
 pub mod OpensForms
 pub mod Places

@@ -238,7 +238,7 @@ common_long (c ∷ front) w rest =
 err_is : {X : Type 0} (f g : Fault) → ◌≡◌ {A = Outcome X} (Err f) (Err g) → f ≡ g
 err_is f g e = cc
 
-unknown_left : (left : List ℕ) (f : Fault) → unknown_at left ≡ Err f → f.left ≡ length left
+pub unknown_left : (left : List ℕ) (f : Fault) → unknown_at left ≡ Err f → f.left ≡ length left
 unknown_left [] f e = let q : ◌≡◌ {A = Fault} (record { cause = Truncated; left = 0 }) f = err_is _ f e in ap (λ (g : Fault). g.left) (sym q)
 unknown_left (c ∷ left) f e = let q : ◌≡◌ {A = Fault} (record { cause = Unknown; left = length (c ∷ left) }) f = err_is _ f e in ap (λ (g : Fault). g.left) (sym q)
 

@@ -214,7 +214,7 @@ fraction_open n ds left bytes f is all some value small e =
     (is ∙ ap (λ (t : List ℕ). ds ++ t) (b.1 ∙ ap (λ (t : List ℕ). 46 ∷ t) z.3) ∙ sym (append_assoc ds (46 ∷ z.0) (z.1 ∷ z.2)))
     z.7
     (whole_starts n (ds ++ 46 ∷ z.0) number)
-    ([], ds ++ 46 ∷ z.0, refl, (pos n, unsigned n (ds ++ 46 ∷ z.0) number, inr (z.5, z.6, ds, z.0, refl)))
+    ([], ds ++ 46 ∷ z.0, refl, (pos n, unsigned n (ds ++ 46 ∷ z.0) number, inr (z.5, z.6, ds, z.0, refl, z.4)))
 
 end_open : (n : ℕ) (t left bytes : List ℕ) (f : Fault) → bytes ≡ t ++ left → IsSize n t → end_at left ≡ Err f → Cut (Starts IsSize) bytes f
 end_open n t [] bytes f is m e = no_err _ f e
@@ -438,9 +438,9 @@ module _ {X : Type 0} (Lang : X → List ℕ → Type 0) (item : List ℕ → Ou
             | inl k ↦ let b = comma_before bytes a.0.0 a.0.1 a.1 h.0 in
                 let less : length a.0.1 ≤ n = omega (arith, ap length b.4, length-append b.1 (b.2 ++ 44 ∷ (b.3 ++ a.0.1)), length-append b.2 (44 ∷ (b.3 ++ a.0.1)), length-append b.3 a.0.1) in
                 fall_behind Members Members DeepMembers DeepMembers (b.1 ++ (b.2 ++ 44 ∷ b.3)) bytes a.0.1 f (b.4 ∙ sym (comma_parts b.1 b.2 b.3 a.0.1))
-                    (λ u g. subst Members (sym (comma_parts b.1 b.2 b.3 u)) (lifts.next b.0 b.1 b.2 b.3 u b.5 b.6 b.7 g))
-                    (λ u g. subst DeepMembers (sym (comma_parts b.1 b.2 b.3 u)) (lifts.deep_next b.0 b.1 b.2 b.3 u b.5 b.6 b.7 g))
-                    (items_open n a.0.1 f less k)
+                (λ u g. subst Members (sym (comma_parts b.1 b.2 b.3 u)) (lifts.next b.0 b.1 b.2 b.3 u b.5 b.6 b.7 g))
+                (λ u g. subst DeepMembers (sym (comma_parts b.1 b.2 b.3 u)) (lifts.deep_next b.0 b.1 b.2 b.3 u b.5 b.6 b.7 g))
+                (items_open n a.0.1 f less k)
             | inr b ↦ no_err _ f b.2
           ]
           | inr h ↦ no_err _ f h.1
@@ -507,26 +507,34 @@ pub pair_default : Starts IsPair []
 pair_default = first_half [] (48 ∷ [], pos 0, zero_number)
 
 single_inside : (before opened u : List ℕ) → AreBlanks before → AreBlanks opened → Starts IsPair u → Starts (IsSingle IsPair) (before ++ 40 ∷ (opened ++ u))
-single_inside before opened u h k g = (g.0 ++ 41 ∷ [], g.1, record {
-  before = before;
-  opened = opened;
-  inside = u ++ g.0;
-  closed = [];
-  parts = append_assoc before (40 ∷ (opened ++ u)) (g.0 ++ 41 ∷ []) ∙ ap (λ (v : List ℕ). before ++ 40 ∷ v) (append_assoc opened u (g.0 ++ 41 ∷ []) ∙ ap (λ (v : List ℕ). opened ++ v) (sym (append_assoc u g.0 (41 ∷ []))));
-  blank = (h, k, refl);
-  means = g.2;
-})
+single_inside before opened u h k g = (
+  g.0 ++ 41 ∷ [],
+  g.1,
+  record {
+    before = before;
+    opened = opened;
+    inside = u ++ g.0;
+    closed = [];
+    parts = append_assoc before (40 ∷ (opened ++ u)) (g.0 ++ 41 ∷ []) ∙ ap (λ (v : List ℕ). before ++ 40 ∷ v) (append_assoc opened u (g.0 ++ 41 ∷ []) ∙ ap (λ (v : List ℕ). opened ++ v) (sym (append_assoc u g.0 (41 ∷ []))));
+    blank = (h, k, refl);
+    means = g.2;
+  },
+)
 
 single_closed : (before opened t u : List ℕ) (point : p.Point) → AreBlanks before → AreBlanks opened → IsPair point t → AreBlanks u → Starts (IsSingle IsPair) ((before ++ 40 ∷ (opened ++ t)) ++ u)
-single_closed before opened t u point h k m c = (41 ∷ [], point, record {
-  before = before;
-  opened = opened;
-  inside = t;
-  closed = u;
-  parts = append_assoc (before ++ 40 ∷ (opened ++ t)) u (41 ∷ []) ∙ append_assoc before (40 ∷ (opened ++ t)) (u ++ 41 ∷ []) ∙ ap (λ (v : List ℕ). before ++ 40 ∷ v) (append_assoc opened t (u ++ 41 ∷ []));
-  blank = (h, k, c);
-  means = m;
-})
+single_closed before opened t u point h k m c = (
+  41 ∷ [],
+  point,
+  record {
+    before = before;
+    opened = opened;
+    inside = t;
+    closed = u;
+    parts = append_assoc (before ++ 40 ∷ (opened ++ t)) u (41 ∷ []) ∙ append_assoc before (40 ∷ (opened ++ t)) (u ++ 41 ∷ []) ∙ ap (λ (v : List ℕ). before ++ 40 ∷ v) (append_assoc opened t (u ++ 41 ∷ []));
+    blank = (h, k, c);
+    means = m;
+  },
+)
 
 single_opening : (u : List ℕ) → Opening u → Starts (IsSingle IsPair) u
 single_opening u o = opening_starts (IsSingle IsPair) u (λ before opened h k. single_inside before opened [] h k pair_default) o
@@ -665,10 +673,11 @@ shut_off : (xs : List p.Point) (t : List ℕ) → AreMembers IsPair xs t → (u 
 shut_off [] t m = absurd m
 shut_off (x ∷ []) t m = (m.0 ++ m.1, m.2 ∙ sym (append_assoc m.0 m.1 (41 ∷ [])), open_whole x m.0 m.1 m.3 m.4)
 shut_off (x ∷ y ∷ xs) t m =
-    let r = shut_off (y ∷ xs) m.3 m.8 in
-    (m.0 ++ (m.1 ++ 44 ∷ (m.2 ++ r.0)),
-    m.4 ∙ ap (λ (v : List ℕ). m.0 ++ (m.1 ++ 44 ∷ (m.2 ++ v))) r.1 ∙ ap (λ (v : List ℕ). m.0 ++ v) (ap (λ (v : List ℕ). m.1 ++ 44 ∷ v) (sym (append_assoc m.2 r.0 (41 ∷ []))) ∙ sym (append_assoc m.1 (44 ∷ (m.2 ++ r.0)) (41 ∷ []))) ∙ sym (append_assoc m.0 (m.1 ++ 44 ∷ (m.2 ++ r.0)) (41 ∷ [])),
-    open_next x m.0 m.1 m.2 r.0 m.5 m.6 m.7 r.2)
+    let r = shut_off (y ∷ xs) m.3 m.8 in (
+      m.0 ++ (m.1 ++ 44 ∷ (m.2 ++ r.0)),
+      m.4 ∙ ap (λ (v : List ℕ). m.0 ++ (m.1 ++ 44 ∷ (m.2 ++ v))) r.1 ∙ ap (λ (v : List ℕ). m.0 ++ v) (ap (λ (v : List ℕ). m.1 ++ 44 ∷ v) (sym (append_assoc m.2 r.0 (41 ∷ []))) ∙ sym (append_assoc m.1 (44 ∷ (m.2 ++ r.0)) (41 ∷ []))) ∙ sym (append_assoc m.0 (m.1 ++ 44 ∷ (m.2 ++ r.0)) (41 ∷ [])),
+      open_next x m.0 m.1 m.2 r.0 m.5 m.6 m.7 r.2,
+    )
 
 -- a list of points that breaks a rule
 abbrev Breaks : (List ℕ → Type 0) → List p.Point → List ℕ → Fault → Type 0

@@ -64,7 +64,7 @@ IsOpening text = (blanks : List ℕ) × (text ≡ 40 ∷ blanks) × AreBlanks bl
 abbrev pub BreaksNumber : ℕ → List ℕ → Type 0
 BreaksNumber b number =
     (z : ℤ) × IsNumber z number
-    × ((is_e b ≡ true) ⊎ ((is_digit b ≡ true) × ((b == 48) ≡ false) × (digits : List ℕ) × (zeros : List ℕ) × (number ≡ digits ++ 46 ∷ zeros)))
+    × ((is_e b ≡ true) ⊎ ((is_digit b ≡ true) × ((b == 48) ≡ false) × (digits : List ℕ) × (zeros : List ℕ) × (number ≡ digits ++ 46 ∷ zeros) × (list_all (λ c. c == 48) zeros ≡ true)))
 
 -- a digit behind others that takes their value past the limit
 abbrev pub PassesLimit : ℕ → List ℕ → Type 0

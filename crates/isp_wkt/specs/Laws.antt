@@ -2,12 +2,12 @@
 use Rattle.std.specs.Prelude.{◌≡◌, ℕ, ◌+◌, ◌<◌, ◌≤◌, ◌⊎◌, ◌↔◌, List, ◌∷◌, ◌++◌, false, length, take, drop, Some, None}
 use Rattle.isp_geom.specs.declared.form.Form.{Form}
 use Rattle.isp_geom.specs.Rules.{IsGeometry}
-use Rattle.isp_wkt.specs.Faults.{Begins, GoesOn, IsFaultPlace, EndsInNinth, IsCause}
+use Rattle.isp_wkt.specs.Faults.{Begins, GoesOn, IsFaultPlace, EndsInNinth, EndsIn, BreaksNumber, PassesLimit, IsCause}
 use Rattle.isp_wkt.specs.Grammar.{IsText}
 use Rattle.isp_wkt.specs.Printed.{printed}
 use Rattle.isp_wkt.specs.Reading.{is_blank, fault_of}
 use Rattle.isp_wkt.specs.declared.cause.WktCause.{WktCause}
-use Rattle.isp_wkt.specs.declared.cause.WktCause.TheVariants.{Truncated, TooDeep, Trailing}
+use Rattle.isp_wkt.specs.declared.cause.WktCause.TheVariants.{Truncated, NotWhole, OutOfRange, TooDeep, Trailing}
 
 -- a text means one geometry at most
 abbrev pub OneMeaning : Type 0
@@ -57,3 +57,13 @@ StandsBehind = (form : Form) (front rest : List ℕ) (b : ℕ) → IsText form f
 -- a byte at a fault that goes on where collections may nest one deeper is TooDeep
 abbrev pub GoesDeeper : Type 0
 GoesDeeper = (text : List ℕ) (cause : WktCause) (at : ℕ) → fault_of text ≡ Some (cause, at) → at < length text → Begins 10 (take (at + 1) text) → cause ≡ TooDeep
+
+-- a digit 1 to 9 in a fraction, E or e directly after a number: it is NotWhole where it is the fault
+abbrev pub BreaksNumbers : Type 0
+BreaksNumbers =
+    (front rest : List ℕ) (b : ℕ) (cause : WktCause) → fault_of (front ++ b ∷ rest) ≡ Some (cause, length front) → EndsIn (BreaksNumber b) front → cause ≡ NotWhole
+
+-- a digit that takes the digits before it past the limit is OutOfRange where it is the fault
+abbrev pub PassesLimits : Type 0
+PassesLimits =
+    (front rest : List ℕ) (b : ℕ) (cause : WktCause) → fault_of (front ++ b ∷ rest) ≡ Some (cause, length front) → EndsIn (PassesLimit b) front → cause ≡ OutOfRange

@@ -1,6 +1,6 @@
 //! What holds of all texts.
 
-ghost use Rattle.isp_wkt.specs.Laws.{FaultsStop, OneMeaning, PrintedTextMeans, FaultsOutside, FaultPlaces, LongestFront, OneFaultPlace, FrontsGoOn, CausesHold, EndsEarly, StandsBehind, GoesDeeper};
+ghost use Rattle.isp_wkt.specs.Laws.{FaultsStop, OneMeaning, PrintedTextMeans, FaultsOutside, FaultPlaces, LongestFront, OneFaultPlace, FrontsGoOn, CausesHold, EndsEarly, StandsBehind, GoesDeeper, BreaksNumbers, PassesLimits};
 
 /// A text means one geometry at most.
 pub fn law_one_meaning()
@@ -34,11 +34,13 @@ pub fn law_fronts_go_on()
     ensures { FrontsGoOn }
 {}
 
-/// What a cause says of the bytes before its place and of the byte at it is true; and Truncated, Trailing and TooDeep
-/// come wherever what they say is true.
+/// What a cause says of the bytes before its place and of the byte at it is true; and Truncated, NotWhole, OutOfRange,
+/// TooDeep and Trailing come wherever what they say is true of the place of the fault.
 pub fn law_fault_causes()
     ensures hold { CausesHold }
     ensures truncated { EndsEarly }
     ensures trailing { StandsBehind }
     ensures deep { GoesDeeper }
+    ensures not_whole { BreaksNumbers }
+    ensures out_of_range { PassesLimits }
 {}
