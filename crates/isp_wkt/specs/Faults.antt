@@ -41,7 +41,7 @@ pub record IsCollectionWord (text : List ℕ) : Type 0 where
   pub blank : AreBlanks blanks
   pub whole : (more ≡ []) ⊎ (blanks ≡ [])
 
--- a front that goes on only because the depth is tested at a `(`: it ends in the word of a ninth collection
+-- a front that ends in the word of a collection, which may be a ninth one: it begins a text of one level more
 pub record EndsInNinth (front : List ℕ) : Type 0 where
   pub part : List ℕ
   pub ninth : List ℕ
