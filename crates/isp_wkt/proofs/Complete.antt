@@ -45,7 +45,7 @@ blank_is b h = cases (b == 32) (b == 9) refl refl h
     cases false true e f h = inr (grind (arith, nat_tests))
     cases false false e f h = absurd cc
 
-blank_ends : (b : ℕ) → is_blank b ≡ true → EndsNumber b
+pub blank_ends : (b : ℕ) → is_blank b ≡ true → EndsNumber b
 blank_ends b h = elim (blank_is b h) [ inl e ↦ subst EndsNumber (sym e) (refl, refl, refl) | inr e ↦ subst EndsNumber (sym e) (refl, refl, refl) ]
 
 -- blanks, and then a byte that ends a number

@@ -10,14 +10,15 @@ use Rattle.isp_geom.specs.declared.form.Form.{Form, Form-F, out-Form, roll-Form,
 use Rattle.isp_geom.specs.declared.form.Form.TheVariants.{Point, LineString, Polygon, MultiPoint, MultiLineString, MultiPolygon, Collection, rolls-Point, rolls-LineString, rolls-Polygon, rolls-MultiPoint, rolls-MultiLineString, rolls-MultiPolygon, rolls-Collection}
 use Rattle.isp_geom.specs.Rules.{is_closed}
 use Rattle.isp_wkt.specs.declared.cause.WktCause.{WktCause}
-use Rattle.isp_wkt.specs.declared.cause.WktCause.TheVariants.{TooFew, Empty}
+use Rattle.isp_wkt.specs.declared.cause.WktCause.TheVariants.{TooFew, Empty, Trailing}
 use Rattle.isp_wkt.specs.declared.cause.Fault.{Fault}
 use Rattle.isp_wkt.specs.declared.kind.Kind.{Kind}
 use Rattle.isp_wkt.specs.declared.kind.Kind.TheVariants as kind
 use Rattle.isp_wkt.specs.Words.{word, upper, common}
-use Rattle.isp_wkt.specs.Grammar.{AreBlanks, IsSingle, IsPair, AreMembers, IsList, keeps, IsLine, AreLines, IsMarked, IsWorded, IsLevel, Means, IsText}
+use Rattle.isp_wkt.specs.Grammar.{AreBlanks, IsSingle, IsPair, AreMembers, IsList, keeps, IsLine, AreLines, IsMarked, IsWorded, IsLevel, Means, IsTextOf, IsText}
 use Rattle.isp_wkt.specs.Reading.{◌>>=◌, Outcome, is_blank, kinds, word_in, skipped, made, body_at, unknown_at, geometry_at, members_at, list_at, single_at, line_at, lines_at, marked_at, point_at, close_at, open_at, paren_at, items_at, ruled, rest_at, text_at}
 use Rattle.isp_wkt.proofs.Sound.{chosen, ok_parts, is_it}
+use Rattle.isp_wkt.proofs.SoundForms.{text_of}
 use Rattle.isp_wkt.proofs.Complete.{if_true, if_false, bind_is, skipped_over, skipped_to, Ends, NotShut, IsComplete, pair_complete, list_complete, list_again, list_begins, pair_skipped, point_again, pair_begins, Begins, begins_open, open_again, close_again, ends_behind}
 
 -- ---- points in parentheses
@@ -103,7 +104,7 @@ lines_complete are_rings = list_complete (IsLine are_rings) (line_at are_rings) 
 
 -- ---- words
 
-upper_again : (b : ℕ) → upper (upper b) ≡ upper b
+pub upper_again : (b : ℕ) → upper (upper b) ≡ upper b
 upper_again b = at (nat_le 97 b && nat_le b 122) refl
   where
     small : (nat_le 97 b && nat_le b 122) ≡ true → upper (b - 32) ≡ b - 32
@@ -299,13 +300,26 @@ members_read zero = none_read
 members_read (suc depth) = some_read depth (members_read depth)
 
 -- a text that means a form is read as that form
+pub text_again_of : (depth : ℕ) (f : Form) (text : List ℕ) → IsTextOf (suc depth) f text → text_of depth text ≡ Ok (f, [])
+text_again_of depth f text m =
+    let start : skipped text ≡ m.body ++ m.after = ap skipped m.parts ∙ form_skipped depth (members_at depth) (members_read depth) m.before f m.body m.after m.blank.0 m.means in
+    let end : skipped m.after ≡ [] = ap skipped (sym (append-nil m.after)) ∙ skipped_over m.after [] m.blank.1 in
+    bind_is (geometry_at (members_at depth) (skipped text)) (f, m.after) _ (ap (geometry_at (members_at depth)) start ∙ (form_read depth (members_at depth) (members_read depth) f m.body m.means m.after).1)
+    ∙ ap (rest_at f) end
+
 pub text_again : (f : Form) (text : List ℕ) → IsText f text → text_at text ≡ Ok (f, [])
 unfolding text_at
-text_again f text m =
-    let start : skipped text ≡ m.body ++ m.after = ap skipped m.parts ∙ form_skipped 8 (members_at 8) (members_read 8) m.before f m.body m.after m.blank.0 m.means in
-    let end : skipped m.after ≡ [] = ap skipped (sym (append-nil m.after)) ∙ skipped_over m.after [] m.blank.1 in
-    bind_is (geometry_at (members_at 8) (skipped text)) (f, m.after) _ (ap (geometry_at (members_at 8)) start ∙ (form_read 8 (members_at 8) (members_read 8) f m.body m.means m.after).1)
-    ∙ ap (rest_at f) end
+text_again f text m = text_again_of 8 f text m
+
+-- a byte behind a whole text
+pub text_behind : (f : Form) (front rest : List ℕ) (b : ℕ) → IsText f front → is_blank b ≡ false → text_at (front ++ b ∷ rest) ≡ Err (record { cause = Trailing; left = length (b ∷ rest) })
+unfolding text_at
+text_behind f front rest b m h =
+    let left : List ℕ = m.after ++ b ∷ rest in
+    let whole : front ++ b ∷ rest ≡ m.before ++ (m.body ++ left) = ap (λ (u : List ℕ). u ++ b ∷ rest) m.parts ∙ append_assoc m.before (m.body ++ m.after) (b ∷ rest) ∙ ap (λ (u : List ℕ). m.before ++ u) (append_assoc m.body m.after (b ∷ rest)) in
+    let start : skipped (front ++ b ∷ rest) ≡ m.body ++ left = ap skipped whole ∙ form_skipped 8 (members_at 8) (members_read 8) m.before f m.body left m.blank.0 m.means in
+    bind_is (geometry_at (members_at 8) (skipped (front ++ b ∷ rest))) (f, left) _ (ap (geometry_at (members_at 8)) start ∙ (form_read 8 (members_at 8) (members_read 8) f m.body m.means left).1)
+    ∙ ap (rest_at f) (skipped_to m.after b rest m.blank.1 h)
 
 pub same_form : (f g : Form) (text : List ℕ) → text_at text ≡ Ok (f, []) → IsText g text → f ≡ g
 same_form f g text e m = (ok_parts f g [] [] (sym e ∙ text_again g text m)).0

@@ -1,7 +1,12 @@
 pub mod Complete
 pub mod CompleteForms
+pub mod Deeper
 pub mod Local
 pub mod LocalForms
+pub mod Marks
+pub mod Opens
+pub mod OpensForms
+pub mod Places
 pub mod PrintedMeans
 pub mod Rules
 pub mod Sequences

@@ -14,9 +14,10 @@ use Rattle.isp_wkt.specs.declared.kind.Kind.{Kind}
 use Rattle.isp_wkt.specs.declared.kind.Kind.TheVariants as kind
 use Rattle.isp_wkt.specs.Words.{word, common, upper}
 use Rattle.isp_wkt.specs.Grammar.{IsPair, IsList}
-use Rattle.isp_wkt.specs.Reading.{◌>>=◌, Outcome, fault, is_e, skipped, size_at, number_at, point_at, open_at, deep_paren_at, comma_at, more_at, member_at, items_at, list_at, ruled, line_at, lines_at, single_at, marked_at, word_in, unknown_at, kinds, made, body_at, deep_at, geometry_at, members_at, rest_at, text_at}
+use Rattle.isp_wkt.specs.Reading.{◌>>=◌, Outcome, fault, is_e, skipped, size_at, number_at, point_at, open_at, deep_paren_at, comma_at, more_at, member_at, items_at, list_at, ruled, line_at, lines_at, single_at, marked_at, word_in, unknown_at, kinds, made, body_at, deep_at, geometry_at, members_at, rest_at}
 use Rattle.isp_wkt.proofs.Sound.{ok_parts, bind_ok, list_sound, point_sound, word_sound, chosen}
 use Rattle.isp_wkt.proofs.Complete.{if_true, pair_complete, list_again}
+use Rattle.isp_wkt.proofs.SoundForms.{text_of}
 use Rattle.isp_wkt.proofs.CompleteForms.{list_skips, word_again}
 use Rattle.isp_wkt.proofs.Local.{Leaves, A, B, Follows, IsLocal, fault_here, choice, leaves_choice, bind_local, done, skipped_le, skip_at, skip_local, at_byte, point_local, open_local, single_local, marked_local, items_local}
 
@@ -84,7 +85,7 @@ same_front b (c ∷ u) (d ∷ t) more rest e h =
     let r = same_front b u t more rest tail h in cc
 
 -- a front that ends before the byte, and one that ends behind it
-front_before : (b : ℕ) (u t more rest : List ℕ) → u ++ b ∷ more ≡ t ++ rest → suc (length more) ≤ length rest → (v : List ℕ) × (u ≡ t ++ v) × (rest ≡ v ++ b ∷ more)
+pub front_before : (b : ℕ) (u t more rest : List ℕ) → u ++ b ∷ more ≡ t ++ rest → suc (length more) ≤ length rest → (v : List ℕ) × (u ≡ t ++ v) × (rest ≡ v ++ b ∷ more)
 front_before b u [] more rest e h = (u, refl, sym e)
 front_before b [] (c ∷ t) more rest e h = absurd (omega (arith, ap length e, length-append t rest))
 front_before b (c ∷ u) (d ∷ t) more rest e h =
@@ -93,7 +94,7 @@ front_before b (c ∷ u) (d ∷ t) more rest e h =
     let r = front_before b u t more rest tail h in
     (r.0, ap (λ (x : ℕ). x ∷ u) head ∙ ap (λ (x : List ℕ). d ∷ x) r.1, r.2)
 
-front_behind : (b : ℕ) (u t more rest : List ℕ) → u ++ b ∷ more ≡ t ++ rest → length rest ≤ length more → (w : List ℕ) × (t ≡ u ++ b ∷ w)
+pub front_behind : (b : ℕ) (u t more rest : List ℕ) → u ++ b ∷ more ≡ t ++ rest → length rest ≤ length more → (w : List ℕ) × (t ≡ u ++ b ∷ w)
 front_behind b [] [] more rest e h = absurd (omega (arith, ap length e))
 front_behind b [] (c ∷ t) more rest e h = (t, cc)
 front_behind b (c ∷ u) [] more rest e h = absurd (omega (arith, ap length e, length-append u (b ∷ more)))
@@ -237,7 +238,7 @@ common_long (c ∷ front) w rest =
 err_is : {X : Type 0} (f g : Fault) → ◌≡◌ {A = Outcome X} (Err f) (Err g) → f ≡ g
 err_is f g e = cc
 
-unknown_left : (left : List ℕ) (f : Fault) → unknown_at left ≡ Err f → f.left ≡ length left
+pub unknown_left : (left : List ℕ) (f : Fault) → unknown_at left ≡ Err f → f.left ≡ length left
 unknown_left [] f e = let q : ◌≡◌ {A = Fault} (record { cause = Truncated; left = 0 }) f = err_is _ f e in ap (λ (g : Fault). g.left) (sym q)
 unknown_left (c ∷ left) f e = let q : ◌≡◌ {A = Fault} (record { cause = Unknown; left = length (c ∷ left) }) f = err_is _ f e in ap (λ (g : Fault). g.left) (sym q)
 
@@ -353,8 +354,7 @@ module _ (b : ℕ) (more other : List ℕ) where
   rest_local : (f : Form) → IsLocal b more other Form (rest_at f)
   rest_local f = at_byte b more other (rest_at f) (fault_here b more other Trailing []) (λ c u. fault_here b more other Trailing (c ∷ u)) (rest_leaves f)
 
-  pub text_local : IsLocal b more other Form text_at
-  unfolding text_at
-  text_local = bind_local b more other (skip_at b more other) (λ x. geometry_at (members_at 8) x.1 >>= λ form. rest_at form.0 (skipped form.1)) (skip_local b more other)
-      (λ _. bind_local b more other (geometry_at (members_at 8)) (λ form. rest_at form.0 (skipped form.1)) (geometry_local (members_at 8) (all_local 8))
+  pub text_local_of : (depth : ℕ) → IsLocal b more other Form (text_of depth)
+  text_local_of depth = bind_local b more other (skip_at b more other) (λ x. geometry_at (members_at depth) x.1 >>= λ form. rest_at form.0 (skipped form.1)) (skip_local b more other)
+      (λ _. bind_local b more other (geometry_at (members_at depth)) (λ form. rest_at form.0 (skipped form.1)) (geometry_local (members_at depth) (all_local depth))
       (λ f. bind_local b more other (skip_at b more other) (λ x. rest_at f x.1) (skip_local b more other) (λ _. rest_local f)))

@@ -52,14 +52,14 @@ skipped_back (b ∷ bs) = step (skipped_back bs) (is_blank b) refl
 
 -- ---- numbers
 
-abbrev Starts : List ℕ → Type 0
-Starts [] = ⊥
-Starts (b ∷ bs) = is_digit b ≡ true
+abbrev pub StartsDigit : List ℕ → Type 0
+StartsDigit [] = ⊥
+StartsDigit (b ∷ bs) = is_digit b ≡ true
 
-abbrev Digits : ℕ → List ℕ → ℕ → List ℕ → Type 0
-Digits size bs n rest = (ds : List ℕ) × (bs ≡ ds ++ rest) × (list_all is_digit ds ≡ true) × (fold (λ n b. n * 10 + (b - 48)) size ds ≡ n) × (n ≤ limit) × (Starts bs → 0 < length ds)
+abbrev pub Digits : ℕ → List ℕ → ℕ → List ℕ → Type 0
+Digits size bs n rest = (ds : List ℕ) × (bs ≡ ds ++ rest) × (list_all is_digit ds ≡ true) × (fold (λ n b. n * 10 + (b - 48)) size ds ≡ n) × (n ≤ limit) × (StartsDigit bs → 0 < length ds)
 
-digits_back : (size : ℕ) (bs : List ℕ) (n : ℕ) (rest : List ℕ) → size ≤ limit → digits_at size bs ≡ Ok (n, rest) → Digits size bs n rest
+pub digits_back : (size : ℕ) (bs : List ℕ) (n : ℕ) (rest : List ℕ) → size ≤ limit → digits_at size bs ≡ Ok (n, rest) → Digits size bs n rest
 digits_back size [] n rest le e = let q = ok_parts size n [] rest e in ([], q.1, refl, q.0, rw (← q.0) le, λ h. absurd h)
 digits_back size (b ∷ bs) n rest le e =
     elim (chosen (is_digit b) _ _ _ e) [
@@ -75,7 +75,7 @@ digits_back size (b ∷ bs) n rest le e =
     small_of : (m : ℕ) → nat_le m limit ≡ true → m ≤ limit
     small_of m h = grind (arith, nat_tests)
 
-zeros_back : (bs : List ℕ) (u : Unit {0}) (rest : List ℕ) → zeros_at bs ≡ Ok (u, rest) → (zs : List ℕ) × (bs ≡ zs ++ rest) × (list_all (λ z. z == 48) zs ≡ true)
+pub zeros_back : (bs : List ℕ) (u : Unit {0}) (rest : List ℕ) → zeros_at bs ≡ Ok (u, rest) → (zs : List ℕ) × (bs ≡ zs ++ rest) × (list_all (λ z. z == 48) zs ≡ true)
 zeros_back [] u rest e = ([], (ok_parts tt u [] rest e).1, refl)
 zeros_back (b ∷ bs) u rest e =
     elim (chosen (b == 48) _ _ _ e) [
@@ -86,7 +86,7 @@ zeros_back (b ∷ bs) u rest e =
       ]
     ]
 
-fraction_back : (bs : List ℕ) (u : Unit {0}) (rest : List ℕ) → fraction_at bs ≡ Ok (u, rest) → (f : List ℕ) × (bs ≡ f ++ rest) × IsFraction f
+pub fraction_back : (bs : List ℕ) (u : Unit {0}) (rest : List ℕ) → fraction_at bs ≡ Ok (u, rest) → (f : List ℕ) × (bs ≡ f ++ rest) × IsFraction f
 fraction_back [] u rest e = ([], (ok_parts tt u [] rest e).1, tt)
 fraction_back (b ∷ bs) u rest e =
     elim (chosen (b == 46) _ _ _ e) [
@@ -97,7 +97,7 @@ fraction_back (b ∷ bs) u rest e =
     dot : (b : ℕ) → (b == 46) ≡ true → b ≡ 46
     dot b h = grind (arith, nat_tests)
 
-end_back : (bs : List ℕ) (u : Unit {0}) (rest : List ℕ) → end_at bs ≡ Ok (u, rest) → bs ≡ rest
+pub end_back : (bs : List ℕ) (u : Unit {0}) (rest : List ℕ) → end_at bs ≡ Ok (u, rest) → bs ≡ rest
 end_back [] u rest e = (ok_parts tt u [] rest e).1
 end_back (b ∷ bs) u rest e =
     elim (chosen (is_e b) _ _ _ e) [
@@ -105,7 +105,7 @@ end_back (b ∷ bs) u rest e =
       | inr h ↦ (ok_parts tt u (b ∷ bs) rest h.1).1
     ]
 
-first_back : (bs : List ℕ) (u : Unit {0}) (rest : List ℕ) → first_at bs ≡ Ok (u, rest) → (bs ≡ rest) × Starts bs
+pub first_back : (bs : List ℕ) (u : Unit {0}) (rest : List ℕ) → first_at bs ≡ Ok (u, rest) → (bs ≡ rest) × StartsDigit bs
 first_back [] u rest e = never _ _ e
 first_back (b ∷ bs) u rest e =
     elim (chosen (is_digit b) _ _ _ e) [
@@ -113,7 +113,7 @@ first_back (b ∷ bs) u rest e =
       | inr h ↦ never _ _ h.1
     ]
 
-size_sound : IsSound IsSize size_at
+pub size_sound : IsSound IsSize size_at
 unfolding size_at
 size_sound bytes n rest e =
     let b1 = bind_ok (first_at bytes) _ _ e in
@@ -125,14 +125,14 @@ size_sound bytes n rest e =
     let b4 = bind_ok (end_at b3.0.1) _ _ b3.2 in
     let h = end_back b3.0.1 b4.0.0 b4.0.1 b4.1 in
     let q = ok_parts b2.0.0 n b4.0.1 rest b4.2 in
-    let starts : Starts b1.0.1 = subst Starts f.0 f.1 in
+    let starts : StartsDigit b1.0.1 = subst StartsDigit f.0 f.1 in
     record {
       text = d.0 ++ g.0;
       parts = f.0 ∙ d.1 ∙ ap (λ (t : List ℕ). d.0 ++ t) (g.1 ∙ ap (λ (t : List ℕ). g.0 ++ t) (h ∙ q.1)) ∙ sym (append_assoc d.0 g.0 rest);
       means = record { digits = d.0; fraction = g.0; parts = refl; some = d.5 starts; all = d.2; value = d.3 ∙ q.0; whole = g.2; small = rw (← q.0) d.4 };
     }
 
-sign_back : (bs : List ℕ) (is_negative : Bool) (rest : List ℕ) → sign_at bs ≡ Ok (is_negative, rest) → (s : List ℕ) × (bs ≡ s ++ rest) × IsSign is_negative s
+pub sign_back : (bs : List ℕ) (is_negative : Bool) (rest : List ℕ) → sign_at bs ≡ Ok (is_negative, rest) → (s : List ℕ) × (bs ≡ s ++ rest) × IsSign is_negative s
 sign_back [] n rest e = let q = ok_parts false n [] rest e in ([], q.1, subst (λ (b : Bool). IsSign b []) q.0 (inl refl))
 sign_back (b ∷ bs) n rest e =
     elim (chosen (b == 45) _ _ _ e) [
@@ -146,7 +146,7 @@ sign_back (b ∷ bs) n rest e =
     is_it : (b c : ℕ) → (b == c) ≡ true → b ≡ c
     is_it b c h = grind (arith, nat_tests)
 
-number_sound : IsSound IsNumber number_at
+pub number_sound : IsSound IsNumber number_at
 unfolding number_at
 number_sound bytes z rest e =
     let b1 = bind_ok (sign_at bytes) _ _ e in
@@ -160,7 +160,7 @@ number_sound bytes z rest e =
       means = record { is_negative = b1.0.0; size = b2.0.0; sign = s.0; body = t.text; parts = refl; signs = s.2; sized = t.means; value = q.0 };
     }
 
-blank_back : (bs : List ℕ) (u : Unit {0}) (rest : List ℕ) → blank_at bs ≡ Ok (u, rest) → (blanks : List ℕ) × (bs ≡ blanks ++ rest) × (0 < length blanks) × AreBlanks blanks
+pub blank_back : (bs : List ℕ) (u : Unit {0}) (rest : List ℕ) → blank_at bs ≡ Ok (u, rest) → (blanks : List ℕ) × (bs ≡ blanks ++ rest) × (0 < length blanks) × AreBlanks blanks
 blank_back [] u rest e = never _ _ e
 blank_back (b ∷ bs) u rest e =
     elim (chosen (is_blank b) _ _ _ e) [
@@ -193,7 +193,7 @@ point_sound bytes point rest e =
 pub is_it : (b c : ℕ) → (b == c) ≡ true → b ≡ c
 is_it b c h = grind (arith, nat_tests)
 
-inside_back : (nothing : WktCause) (bs : List ℕ) (u : Unit {0}) (rest : List ℕ) → inside_at nothing bs ≡ Ok (u, rest) → bs ≡ rest
+pub inside_back : (nothing : WktCause) (bs : List ℕ) (u : Unit {0}) (rest : List ℕ) → inside_at nothing bs ≡ Ok (u, rest) → bs ≡ rest
 inside_back nothing [] u rest e = (ok_parts tt u [] rest e).1
 inside_back nothing (b ∷ bs) u rest e =
     elim (chosen (b == 41) _ _ _ e) [
@@ -201,7 +201,7 @@ inside_back nothing (b ∷ bs) u rest e =
       | inr h ↦ (ok_parts tt u (b ∷ bs) rest h.1).1
     ]
 
-paren_back : (nothing : WktCause) (bs : List ℕ) (u : Unit {0}) (rest : List ℕ) → paren_at nothing bs ≡ Ok (u, rest) → (opened : List ℕ) × (bs ≡ 40 ∷ (opened ++ rest)) × AreBlanks opened
+pub paren_back : (nothing : WktCause) (bs : List ℕ) (u : Unit {0}) (rest : List ℕ) → paren_at nothing bs ≡ Ok (u, rest) → (opened : List ℕ) × (bs ≡ 40 ∷ (opened ++ rest)) × AreBlanks opened
 paren_back nothing [] u rest e = never _ _ e
 paren_back nothing (b ∷ bs) u rest e =
     elim (chosen (b == 40) _ _ _ e) [
@@ -213,18 +213,18 @@ paren_back nothing (b ∷ bs) u rest e =
       ]
     ]
 
-open_back : (nothing : WktCause) (bs : List ℕ) (u : Unit {0}) (rest : List ℕ) → open_at nothing bs ≡ Ok (u, rest)
+pub open_back : (nothing : WktCause) (bs : List ℕ) (u : Unit {0}) (rest : List ℕ) → open_at nothing bs ≡ Ok (u, rest)
     → (before : List ℕ) × (opened : List ℕ) × (bs ≡ before ++ 40 ∷ (opened ++ rest)) × AreBlanks before × AreBlanks opened
 open_back nothing bs u rest e =
     let r = skipped_back bs in
     let s = paren_back nothing (skipped bs) u rest e in
     (r.0, s.0, r.1 ∙ ap (λ (t : List ℕ). r.0 ++ t) s.1, r.2, s.2)
 
-abbrev Goes : Bool → List ℕ → List ℕ → Type 0
+abbrev pub Goes : Bool → List ℕ → List ℕ → Type 0
 Goes true bs rest = (blanks : List ℕ) × (more : List ℕ) × (bs ≡ blanks ++ 44 ∷ (more ++ rest)) × AreBlanks blanks × AreBlanks more
 Goes false bs rest = (blanks : List ℕ) × (bs ≡ blanks ++ 41 ∷ rest) × AreBlanks blanks
 
-more_back : (bs : List ℕ) (m : Bool) (rest : List ℕ) → more_at bs ≡ Ok (m, rest) → Goes m bs rest
+pub more_back : (bs : List ℕ) (m : Bool) (rest : List ℕ) → more_at bs ≡ Ok (m, rest) → Goes m bs rest
 more_back bs m rest e = let r = skipped_back bs in at r.0 r.2 (skipped bs) r.1 e
   where
     at : (blanks : List ℕ) → AreBlanks blanks → (left : List ℕ) → bs ≡ blanks ++ left → comma_at left ≡ Ok (m, rest) → Goes m bs rest
@@ -241,7 +241,7 @@ more_back bs m rest e = let r = skipped_back bs in at r.0 r.2 (skipped bs) r.1 e
           ]
         ]
 
-close_back : (bs : List ℕ) (u : Unit {0}) (rest : List ℕ) → close_at bs ≡ Ok (u, rest) → (blanks : List ℕ) × (bs ≡ blanks ++ 41 ∷ rest) × AreBlanks blanks
+pub close_back : (bs : List ℕ) (u : Unit {0}) (rest : List ℕ) → close_at bs ≡ Ok (u, rest) → (blanks : List ℕ) × (bs ≡ blanks ++ 41 ∷ rest) × AreBlanks blanks
 close_back bs u rest e = let r = skipped_back bs in at r.0 r.2 (skipped bs) r.1 e
   where
     at : (blanks : List ℕ) → AreBlanks blanks → (left : List ℕ) → bs ≡ blanks ++ left → shut_at left ≡ Ok (u, rest) → (blanks : List ℕ) × (bs ≡ blanks ++ 41 ∷ rest) × AreBlanks blanks

@@ -8,7 +8,7 @@ use Rattle.isp_wkt.specs.declared.cause.WktCause.TheVariants.{Empty, TooDeep}
 use Rattle.isp_wkt.specs.declared.kind.Kind.{Kind}
 use Rattle.isp_wkt.specs.declared.kind.Kind.TheVariants as kind
 use Rattle.isp_wkt.specs.Words.{word, upper}
-use Rattle.isp_wkt.specs.Grammar.{IsSingle, IsPair, IsList, IsLine, AreLines, IsMarked, IsWorded, IsLevel, Means, IsText}
+use Rattle.isp_wkt.specs.Grammar.{IsSingle, IsPair, IsList, IsLine, AreLines, IsMarked, IsWorded, IsLevel, Means, IsTextOf, IsText}
 use Rattle.isp_wkt.specs.Reading.{◌>>=◌, Outcome, kinds, word_in, skipped, made, body_at, geometry_at, members_at, deep_at, deep_paren_at, list_at, single_at, line_at, lines_at, marked_at, rest_at, text_at, fault}
 use Rattle.isp_wkt.proofs.Sound.{bind_ok, ok_parts, Took, IsSound, skipped_back, list_sound, single_sound, marked_sound, line_sound, lines_sound, word_sound}
 
@@ -76,12 +76,15 @@ rest_back : (form f : Form) (left rest : List ℕ) → rest_at form left ≡ Ok 
 rest_back form f [] rest e = ((ok_parts form f [] rest e).0, refl)
 rest_back form f (b ∷ left) rest e = never _ _ e
 
-pub text_sound : (text : List ℕ) (f : Form) (rest : List ℕ) → text_at text ≡ Ok (f, rest) → IsText f text
-unfolding text_at
-text_sound text f rest e =
+-- a text that is read with so many collections in one another
+abbrev pub text_of : ℕ → List ℕ → Outcome Form
+text_of depth text = geometry_at (members_at depth) (skipped text) >>= λ form. rest_at form.0 (skipped form.1)
+
+pub text_sound_of : (depth : ℕ) (text : List ℕ) (f : Form) (rest : List ℕ) → text_of depth text ≡ Ok (f, rest) → IsTextOf (suc depth) f text
+text_sound_of depth text f rest e =
     let r = skipped_back text in
-    let b = bind_ok (geometry_at (members_at 8) (skipped text)) _ _ e in
-    let t = geometry_sound 8 (members_at 8) (members_sound 8) (skipped text) b.0.0 b.0.1 b.1 in
+    let b = bind_ok (geometry_at (members_at depth) (skipped text)) _ _ e in
+    let t = geometry_sound depth (members_at depth) (members_sound depth) (skipped text) b.0.0 b.0.1 b.1 in
     let s = skipped_back b.0.1 in
     let q = rest_back b.0.0 f (skipped b.0.1) rest b.2 in
     let end : b.0.1 ≡ s.0 = s.1 ∙ ap (λ (u : List ℕ). s.0 ++ u) q.1 ∙ append-nil s.0 in
@@ -91,5 +94,9 @@ text_sound text f rest e =
       after = s.0;
       parts = r.1 ∙ ap (λ (u : List ℕ). r.0 ++ u) (t.parts ∙ ap (λ (u : List ℕ). t.text ++ u) end);
       blank = (r.2, s.2);
-      means = subst (λ (g : Form). Means 9 g t.text) q.0 t.means;
+      means = subst (λ (g : Form). Means (suc depth) g t.text) q.0 t.means;
     }
+
+pub text_sound : (text : List ℕ) (f : Form) (rest : List ℕ) → text_at text ≡ Ok (f, rest) → IsText f text
+unfolding text_at
+text_sound text f rest e = text_sound_of 8 text f rest e

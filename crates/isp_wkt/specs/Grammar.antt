@@ -126,11 +126,15 @@ unfoldable pub Means : ℕ → Form → List ℕ → Type 0
 Means zero form text = ⊥
 Means (suc levels) form text = IsLevel (Means levels) (out-Form form) text
 
--- the text means the geometry: blanks may stand round it, and collections nest at most eight deep
-pub record IsText (form : Form) (text : List ℕ) : Type 0 where
+-- the text means the geometry, which has at most so many levels: blanks may stand round it
+pub record IsTextOf (levels : ℕ) (form : Form) (text : List ℕ) : Type 0 where
   pub before : List ℕ
   pub body : List ℕ
   pub after : List ℕ
   pub parts : text ≡ before ++ (body ++ after)
   pub blank : AreBlanks before × AreBlanks after
-  pub means : Means 9 form body
+  pub means : Means levels form body
+
+-- the text means the geometry: collections nest at most eight deep
+abbrev pub IsText : Form → List ℕ → Type 0
+IsText form text = IsTextOf 9 form text

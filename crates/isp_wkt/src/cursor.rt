@@ -22,12 +22,14 @@ impl<'a> Model for Cursor<'a> {
     ghost view = { λ c. c.rest.now };
 }
 
+/// Whether the byte is a blank: a space or a tab.
 pub fn is_blank(b: u8) -> bool
     ensures { result ≡ is_blank b }
 {
     b == b' ' || b == b'\t'
 }
 
+/// Whether the byte is `E` or `e`.
 pub fn is_e(b: u8) -> bool
     ensures { result ≡ is_e b }
 {
@@ -47,12 +49,14 @@ fn skipped(bytes: &[u8]) -> &[u8]
 }
 
 impl<'a> Cursor<'a> {
+    /// All bytes of a text.
     pub fn new(text: &'a [u8]) -> Cursor<'a>
         ensures { result ≡ text.entry.now }
     {
         Cursor { rest: text }
     }
 
+    /// How many bytes are left.
     pub fn len(&self) -> usize
         ensures value { result ≡ length self.now }
         ensures small { result < 2 ^ 63 }

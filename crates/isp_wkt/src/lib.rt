@@ -12,6 +12,9 @@ mod reader;
 mod tests;
 
 pub use cause::{WktCause, WktError};
-pub use laws::{law_faults_stop, law_one_meaning, law_printed_text_means};
+pub use laws::{
+    law_fault_causes, law_fault_place, law_faults_stop, law_fronts_go_on, law_one_meaning,
+    law_printed_text_means,
+};
 pub use printer::print;
 pub use reader::read;

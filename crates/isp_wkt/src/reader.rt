@@ -6,6 +6,7 @@ ghost use Rattle.isp_wkt.specs.declared.cause.WktCause.{WktCause};
 ghost use Rattle.isp_wkt.specs.declared.cause.WktCause.TheVariants.{Empty};
 ghost use Rattle.isp_geom.specs.declared.form.Form.{Form};
 ghost use Rattle.isp_wkt.specs.Grammar.{IsText};
+ghost use Rattle.isp_wkt.specs.Faults.{StandsAt};
 
 use crate::cause::{Fault, Stop, WktCause, WktError};
 use crate::cursor::Cursor;
@@ -281,6 +282,8 @@ pub fn read(alloc: Global, text: &[u8]) -> Result<Geometry, WktError>
     ensures only { (form : Form) → IsText form text.now → IsRead result form }
     // Which fault it is.
     ensures exact { Answers result text.now }
+    // The place of the fault by the grammar, and what its cause says there.
+    ensures place { StandsAt result text.now }
 {
     match form_of(alloc, text) {
         Ok(form) => Ok(Geometry { form }),

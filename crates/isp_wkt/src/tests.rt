@@ -139,7 +139,10 @@ fn texts_are_read_and_printed(rt: HostRuntime) -> Result<(), Fail> {
         let again = print(alloc, &geometry)?;
         assert!(rt; again.as_slice() == printed, "{text:?}");
     }
+    law_fault_causes();
+    law_fault_place();
     law_faults_stop();
+    law_fronts_go_on();
     law_one_meaning();
     law_printed_text_means();
     Ok(())
@@ -158,13 +161,19 @@ fn faults_have_their_cause_and_place(rt: HostRuntime) {
     }
 }
 
-// So many collections, each in the one before, round the text `inner`.
-fn nested(alloc: Global, depth: u8, inner: &[u8]) -> Result<Vec<u8>, AllocError> {
+// The beginnings of so many collections, each in the one before, and then the text `inner`.
+fn begun(alloc: Global, depth: u8, inner: &[u8]) -> Result<Vec<u8>, AllocError> {
     let mut text = Vec::new(alloc);
     for _ in 0..depth {
         text.extend_from_slice(b"GEOMETRYCOLLECTION(")?;
     }
     text.extend_from_slice(inner)?;
+    Ok(text)
+}
+
+// So many collections, each in the one before, round the text `inner`.
+fn nested(alloc: Global, depth: u8, inner: &[u8]) -> Result<Vec<u8>, AllocError> {
+    let mut text = begun(alloc, depth, inner)?;
     for _ in 0..depth {
         text.push(b')')?;
     }
@@ -187,6 +196,30 @@ fn collections_nest_eight_deep(rt: HostRuntime) -> Result<(), Fail> {
     ];
     for (inner, cause, at) in rows {
         let text = nested(alloc, 8, inner)?;
+        assert!(rt; text.len() <= 65_536);
+        assert!(rt;
+            read(alloc, &text).err() == Some(WktError::Bad { cause, at }),
+            "{inner:?}"
+        );
+    }
+    Ok(())
+}
+
+#[test]
+fn the_word_of_a_ninth_collection_goes_on(rt: HostRuntime) -> Result<(), Fail> {
+    let alloc = rt.alloc();
+    let rows: [(&[u8], WktCause, usize); 8] = [
+        (b"GEOM", WktCause::Truncated, 156),
+        (b"geometrycollection", WktCause::Truncated, 170),
+        (b"GEOMETRYCOLLECTION \t", WktCause::Truncated, 172),
+        (b"GEOMETRYCOLLECTION \t(", WktCause::TooDeep, 172),
+        (b"GEOMETRYCOLLECTION \te", WktCause::Empty, 172),
+        (b"GEOMETRYCOLLECTION 1", WktCause::Unknown, 171),
+        (b"GEOMETRY(", WktCause::Unknown, 160),
+        (b"POINT(1 2),GEOMETRYCOLLECTION(", WktCause::TooDeep, 181),
+    ];
+    for (inner, cause, at) in rows {
+        let text = begun(alloc, 8, inner)?;
         assert!(rt; text.len() <= 65_536);
         assert!(rt;
             read(alloc, &text).err() == Some(WktError::Bad { cause, at }),

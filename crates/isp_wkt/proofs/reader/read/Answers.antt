@@ -1,6 +1,7 @@
-use Rattle.std.proofs.Common.{[]}
+use Rattle.std.proofs.Common.{◌≡◌, ◌-◌, [], length, rules}
 use Rattle.isp_wkt.proofs.SoundForms.{text_sound}
 use Rattle.isp_wkt.proofs.CompleteForms.{same_form, no_fault}
+use Rattle.isp_wkt.proofs.Places.{stands}
 use Rattle.isp_wkt.proofs.Rules.{text_rule}
 use Rattle.isp_wkt.proofs.reader.read.Goals as goal
 
@@ -17,3 +18,9 @@ pub returns-in-Err-Bad-clause-only : goal.returns-in-Err-Bad-clause-only
 returns-in-Err-Bad-clause-only c =
     let e = rw c.in-Err-Bad.field-0-is at c.in-Err-Bad.ensures in
     λ g m. no_fault c.in-Err-Bad.fault g c.args.text.now e m
+
+pub returns-in-Err-Bad-clause-place : goal.returns-in-Err-Bad-clause-place
+returns-in-Err-Bad-clause-place c =
+    let e = rw c.in-Err-Bad.field-0-is at c.in-Err-Bad.ensures in
+    let at : c.saturating_sub-at.result ≡ length c.args.text.now - c.in-Err-Bad.fault.left = search rules in
+    stands c.args.text.now c.in-Err-Bad.fault c.saturating_sub-at.result e at
