@@ -1,11 +1,11 @@
 -- Where a member stands, and the list without it by places.
-use Rattle.std.proofs.Common.{◌≡◌, ◌∙◌, ◌+◌, ◌-◌, ◌<◌, ◌≤◌, ◌⊎◌, Bool, true, false, not, cond, List, [], ◌∷◌, ◌++◌, ℕ, zero, suc, Option, Some, None, refl, sym, ap, subst, filter, nat_eq, nat_lt, arith, rules, ⊎_elim, length, get_or, take, drop, append_assoc, add-one}
-use Rattle.std.specs.List.{list_any, IsDistinct, position, position_or_len, remove}
+use Rattle.std.proofs.Common.{◌≡◌, ◌∙◌, ◌+◌, ◌-◌, ◌<◌, ◌≤◌, Bool, true, false, not, cond, List, [], ◌∷◌, ◌++◌, ℕ, zero, suc, Some, None, refl, sym, ap, subst, nat_eq, nat_lt, arith, ⊎_elim, length, get_or, take, drop}
+use Rattle.std.specs.List.{IsDistinct, position, position_or_len}
 use Rattle.std.specs.Option.{option_or}
-use Rattle.std.proofs.lemmas.Bool.{false≢true, eqb-true, eq-eqb, ne_eqb, cond-true, cond-false, cases_eq, cases_Bool, lt-ltb}
-use Rattle.std.proofs.lemmas.List.{length-take-le, drop_more, take-take, drop-take, take_more, get_or_read}
+use Rattle.std.proofs.lemmas.Bool.{false≢true, eqb-true, eq-eqb, ne_eqb, cond-true, cond-false, cases_eq, lt-ltb}
+use Rattle.std.proofs.lemmas.List.{take_more, get_or_read}
 use Rattle.std.proofs.lemmas.List.Quantifiers.{position-Some}
-use Rattle.isp_recency.specs.Recent.{has, without, last_where, IsRecency}
+use Rattle.isp_recency.specs.Recent.{has, without, last_where}
 use Rattle.isp_recency.proofs.RecentLaws.{has_first, has_later, without_absent, distinct_first, distinct_rest, has_cases}
 
 -- the element at a place is a member

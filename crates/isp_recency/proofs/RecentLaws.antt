@@ -1,6 +1,6 @@
 -- Laws on recency lists: who is in them, that they stay distinct, and what the last member that passes a test is.
-use Rattle.std.proofs.Common.{◌≡◌, ◌∙◌, ◌+◌, ◌<◌, ◌≤◌, ◌⊎◌, ◌&&◌, ◌||◌, Bool, true, false, not, cond, List, [], ◌∷◌, ◌++◌, ℕ, zero, suc, Option, Some, None, refl, sym, ap, subst, inl, inr, filter, nat_eq, arith, rules, ⊎_elim, length, get_or, take, drop}
-use Rattle.std.specs.List.{list_any, IsDistinct, AllByRecursion, position}
+use Rattle.std.proofs.Common.{◌≡◌, ◌∙◌, ◌<◌, ◌≤◌, ◌⊎◌, ◌||◌, Bool, true, false, not, cond, List, [], ◌∷◌, ℕ, Option, Some, None, refl, sym, ap, subst, inl, inr, nat_eq, arith, ⊎_elim, length}
+use Rattle.std.specs.List.{IsDistinct, AllByRecursion}
 use Rattle.std.specs.Option.{option_or}
 use Rattle.std.proofs.lemmas.Bool.{false≢true, or_cases, or_parts, or_from, or_left, or_right, eqb-true, eq-eqb, ne_eqb, eqb-false, cond-true, cond-false, cases_Bool, not_from_true, not_from_false, cases_eq}
 use Rattle.std.proofs.lemmas.Map.Steps.{length-le_from_distinct_below}
@@ -130,11 +130,11 @@ last_passes test (x ∷ xs) i e =
     elim (last_where test xs) as P [
       | Some k ↦ λ is same. let found = last_passes test xs i (sym is ∙ same) in (has_later i x xs found.0, found.1)
       | None ↦ λ is same. let b = test x in
-        ⊎_elim
-        (λ yes_is. let k : x ≡ i = let c = cond-true (test x) (Some x) None yes_is in cc in
-        (or_left (nat_eq i x) (has xs i) (eq-eqb i x (sym k)), ap test (sym k) ∙ yes_is))
-        (λ no_is. let c = cond-false (test x) (Some x) None no_is in let bad : None ≡ Some i = sym c ∙ same in cc)
-        (cases_Bool (test x))
+          ⊎_elim
+          (λ yes_is. let k : x ≡ i = let c = cond-true (test x) (Some x) None yes_is in cc in
+          (or_left (nat_eq i x) (has xs i) (eq-eqb i x (sym k)), ap test (sym k) ∙ yes_is))
+          (λ no_is. let c = cond-false (test x) (Some x) None no_is in let bad : None ≡ Some i = sym c ∙ same in cc)
+          (cases_Bool (test x))
     ] refl e
 
 pub none_passes : (test : ℕ → Bool) (xs : List ℕ) → last_where test xs ≡ None → (i : ℕ) → has xs i ≡ true → test i ≡ false
@@ -144,10 +144,10 @@ none_passes test (x ∷ xs) e i h =
     elim (last_where test xs) as P [
       | Some k ↦ λ is same. let bad : Some k ≡ None = same in cc
       | None ↦ λ is same.
-        ⊎_elim
-        (λ yes_is. let c = cond-true (test x) (Some x) None yes_is in let bad : Some x ≡ None = sym c ∙ same in cc)
-        (λ no_is. ⊎_elim (λ here. ap test here ∙ no_is) (λ there. none_passes test xs (sym is) i there) (has_cases i x xs h))
-        (cases_Bool (test x))
+          ⊎_elim
+          (λ yes_is. let c = cond-true (test x) (Some x) None yes_is in let bad : Some x ≡ None = sym c ∙ same in cc)
+          (λ no_is. ⊎_elim (λ here. ap test here ∙ no_is) (λ there. none_passes test xs (sym is) i there) (has_cases i x xs h))
+          (cases_Bool (test x))
     ] refl e
 
 pub last_agrees : (test other : ℕ → Bool) → ((i : ℕ) → test i ≡ other i) → (xs : List ℕ) → last_where test xs ≡ last_where other xs

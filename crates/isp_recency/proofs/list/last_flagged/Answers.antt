@@ -1,6 +1,5 @@
 use Rattle.std.proofs.Common.{◌-◌, ◌<◌, false, arith, subst, get_or, length, sym}
 use Rattle.std.proofs.lemmas.List.{get_or_read}
-use Rattle.isp_recency.specs.Recent.{has}
 use Rattle.isp_recency.proofs.Places.{has_at, stops, goes_on}
 use Rattle.isp_recency.proofs.list.last_flagged.Goals as goal
 

@@ -1,4 +1,4 @@
-use Rattle.std.proofs.Common.{ap, sym, subst, arith, ◌<◌, ◌≡◌, ◌∙◌, true, take, drop, suc, ◌++◌, length, refl}
+use Rattle.std.proofs.Common.{ap, sym, subst, arith, ◌≡◌, ◌∙◌, take, drop, suc, ◌++◌}
 use Rattle.std.specs.Option.{OnSome}
 use Rattle.isp_recency.specs.Recent.{has, without, IsRecency}
 use Rattle.isp_recency.proofs.RecentLaws.{after_remove, list_of}
@@ -15,9 +15,10 @@ gone c =
     (subst (λ o. OnSome o (c.remove.new.self.items ≡ take c.in-Some.place xs ++ drop (suc c.in-Some.place) xs)) was c.remove.ensures.items)
 
 pub invariant_of-self : goal.invariant_of-self
-invariant_of-self c =
-    (omega (arith, c.self.invariant.0, c.remove.ensures.capacity),
-    subst (λ xs. IsRecency (list_of c.self.inside.size xs)) (sym (gone c)) (after_remove c.self.inside.size c.args.i c.self.inside.members.items c.self.invariant.1))
+invariant_of-self c = (
+  omega (arith, c.self.invariant.0, c.remove.ensures.capacity),
+  subst (λ xs. IsRecency (list_of c.self.inside.size xs)) (sym (gone c)) (after_remove c.self.inside.size c.args.i c.self.inside.members.items c.self.invariant.1),
+)
 
 pub returns-in-Some-clause-list : goal.returns-in-Some-clause-list
 returns-in-Some-clause-list c =
