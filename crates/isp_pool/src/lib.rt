@@ -10,7 +10,12 @@
 //! - `buffer`: the pool.
 #![tactic(auto)]
 
+mod buffer;
 mod by_page;
 mod empty;
+mod frames;
 #[cfg(test)]
 mod tests;
+
+pub use buffer::Pool;
+pub use frames::Frame;
