@@ -1,9 +1,9 @@
 -- Walks along chains, and chains after one frame came in or went.
-use Rattle.std.proofs.Common.{◌≡◌, ◌≢◌, ◌∙◌, ◌+◌, ◌<◌, ◌≤◌, ◌⊎◌, ◌%◌, Bool, true, false, List, [], ◌∷◌, ℕ, zero, suc, Option, Some, None, refl, sym, ap, subst, nat_eq, arith, ⊎_elim, length, get_or, set, length-set, replicate}
+use Rattle.std.proofs.Common.{◌≡◌, ◌≢◌, ◌∙◌, ◌+◌, ◌<◌, ◌≤◌, ◌%◌, Bool, true, false, List, ℕ, zero, suc, Option, Some, None, refl, sym, ap, subst, arith, ⊎_elim, length, get_or, set, length-set, replicate}
 use Rattle.std.proofs.lemmas.Bool.{false≢true, eqb-true, eq-eqb, ne_eqb, cases_eq, cases_lt, cases_order}
 use Rattle.std.proofs.lemmas.List.{get_or_past, get_or-set_same, get_or-set_other, length-replicate}
 use Rattle.isp_page.specs.declared.page.PageNo.{PageNo}
-use Rattle.isp_pool.specs.Chains.{page_of_frame, falls, in_chain, IsLast, IsAbove, AreLinked, AreHeads, IsChained, IsFound, IsPassed, follower, start_with, links_with, IsWithin}
+use Rattle.isp_pool.specs.Chains.{page_of_frame, falls, in_chain, IsLast, IsAbove, AreLinked, AreHeads, IsChained, IsPassed, follower, start_with, links_with, IsWithin}
 
 nothing_at : {X : Type 0} (n i : ℕ) → ◌≡◌ {A = Option X} (get_or (replicate n None) i None) None
 nothing_at zero i = refl
@@ -50,9 +50,12 @@ goes_by : (pages : List (Option PageNo)) (p : PageNo) (bound : ℕ) (r : Option 
 goes_by pages p bound None le last above = λ j e.
     ⊎_elim (λ lt. false≢true (sym (last j lt) ∙ chain_has (length pages) pages j p e)) (λ past. above j past e) (cases_lt j bound)
 goes_by pages p bound (Some i) le last above =
-    let fits : i < bound = last.0 in
-    (omega arith, last.1, λ j lt e.
-    ⊎_elim (λ inside. false≢true (sym (last.2 j lt inside) ∙ chain_has (length pages) pages j p e)) (λ past. above j past e) (cases_lt j bound))
+    let fits : i < bound = last.0 in (
+      omega arith,
+      last.1,
+      λ j lt e.
+          ⊎_elim (λ inside. false≢true (sym (last.2 j lt inside) ∙ chain_has (length pages) pages j p e)) (λ past. above j past e) (cases_lt j bound),
+    )
 
 pub walk_begins : (pages : List (Option PageNo)) (p : PageNo) (r : Option ℕ)
     → IsLast (in_chain (length pages) pages (p.0 % length pages)) (length pages) r → IsPassed pages p r
@@ -112,7 +115,7 @@ last_lower : (test : ℕ → Bool) (low bound : ℕ) (r : Option ℕ) → low < 
 last_lower test low bound None lt fails gap last = λ j a. last j (omega arith)
 last_lower test low bound (Some i) lt fails gap last =
     let below : i < low = ⊎_elim (λ e. absurd (false≢true (sym fails ∙ ap test (sym e) ∙ last.1)))
-        (λ differ. ⊎_elim (λ a. a) (λ b. absurd (false≢true (sym (gap i b last.0) ∙ last.1))) differ) (cases_order i low) in
+    (λ differ. ⊎_elim (λ a. a) (λ b. absurd (false≢true (sym (gap i b last.0) ∙ last.1))) differ) (cases_order i low) in
     (below, last.1, λ j a b. last.2 j a (omega arith))
 
 last_higher : (test : ℕ → Bool) (low bound : ℕ) (r : Option ℕ) → low ≤ bound → ((j : ℕ) → low ≤ j → j < bound → test j ≡ false)
@@ -184,11 +187,11 @@ pub turned_starts : (n : ℕ) (pages : List (Option PageNo)) (heads next : List 
 turned_starts n pages heads next frame c above o to t = record {
   long = length_starts heads c above to ∙ t.moving.chained.begun.long;
   starts = λ d fits.
-    ⊎_elim (λ same. subst (λ e. IsLast (in_chain n (set pages frame o) e) n (get_or (start_with heads c above to) e None)) (sym same) (turned_start n pages heads next frame c above o to t))
-    (λ differ. subst (λ r. IsLast (in_chain n (set pages frame o) d) n r) (sym (start_other heads c d above to differ))
-    (last_agrees (in_chain n pages d) (in_chain n (set pages frame o) d) n (get_or heads d None) (λ j lt. other_chain n pages frame c d o t.only differ j)
-    (t.moving.chained.begun.starts d fits)))
-    (cases_eq d c);
+      ⊎_elim (λ same. subst (λ e. IsLast (in_chain n (set pages frame o) e) n (get_or (start_with heads c above to) e None)) (sym same) (turned_start n pages heads next frame c above o to t))
+      (λ differ. subst (λ r. IsLast (in_chain n (set pages frame o) d) n r) (sym (start_other heads c d above to differ))
+      (last_agrees (in_chain n pages d) (in_chain n (set pages frame o) d) n (get_or heads d None) (λ j lt. other_chain n pages frame c d o t.only differ j)
+      (t.moving.chained.begun.starts d fits)))
+      (cases_eq d c);
 }
 
 fits_in : (a b g : ℕ) → a ≡ b → g < b → g < a
@@ -217,14 +220,14 @@ turned_link n pages heads next frame c above o to t i away fits inside =
     (λ high. elim above as P [
       | None ↦ λ gap follows. absurd (false≢true (sym (gap i high fits) ∙ inside))
       | Some g ↦ λ gap follows.
-        ⊎_elim
-        (λ here_is. let long = fits_in (length next) n g t.moving.chained.linked.long gap.1 in
-        subst (λ k. IsLast other k (get_or (set next g to) k None)) (sym here_is)
-        (subst (λ r. IsLast other g r) (sym (get_or-set_same next g to None long)) follows))
-        (λ apart. let below : g < i = ⊎_elim (λ lt. absurd (false≢true (sym (gap.3 i high lt) ∙ inside))) (λ le. strictly g i apart le) (cases_lt i g) in
-        subst (λ r. IsLast other i r) (sym (get_or-set_other next g i to None apart))
-        (last_kept test other frame g i (get_or next i None) agree gap.0 below gap.2 old))
-        (cases_eq i g)
+          ⊎_elim
+          (λ here_is. let long = fits_in (length next) n g t.moving.chained.linked.long gap.1 in
+          subst (λ k. IsLast other k (get_or (set next g to) k None)) (sym here_is)
+          (subst (λ r. IsLast other g r) (sym (get_or-set_same next g to None long)) follows))
+          (λ apart. let below : g < i = ⊎_elim (λ lt. absurd (false≢true (sym (gap.3 i high lt) ∙ inside))) (λ le. strictly g i apart le) (cases_lt i g) in
+          subst (λ r. IsLast other i r) (sym (get_or-set_other next g i to None apart))
+          (last_kept test other frame g i (get_or next i None) agree gap.0 below gap.2 old))
+          (cases_eq i g)
     ] t.moving.gap t.follows)
     differ)
     (cases_order i frame)
@@ -236,12 +239,12 @@ other_link : (n : ℕ) (pages : List (Option PageNo)) (heads next : List (Option
 other_link n pages heads next frame c above o to t i d differ inside =
     let P : Option ℕ → Type 0 = λ a. IsAbove (in_chain n pages c) frame n a → (g : ℕ) → a ≡ Some g → in_chain n pages c g ≡ true in
     let passes : (g : ℕ) → above ≡ Some g → in_chain n pages c g ≡ true =
-        elim above as P [ None ↦ λ gap g e. cc | Some k ↦ λ gap g e. let same : k ≡ g = cc in ap (in_chain n pages c) (sym same) ∙ gap.2 ] t.moving.gap in
+    elim above as P [ None ↦ λ gap g e. cc | Some k ↦ λ gap g e. let same : k ≡ g = cc in ap (in_chain n pages c) (sym same) ∙ gap.2 ] t.moving.gap in
     let apart : (g : ℕ) → above ≡ Some g → i ≡ g → ⊥ = λ g e same.
-        let mine = falls_page n d (page_of_frame pages i) inside in
-        let its = falls_page n c (page_of_frame pages g) (passes g e) in
-        let one : mine.0 ≡ its.0 = let a : Some mine.0 ≡ Some its.0 = sym mine.1 ∙ ap (page_of_frame pages) same ∙ its.1 in cc in
-        differ (sym mine.2 ∙ ap (λ (q : PageNo). q.0 % n) one ∙ its.2) in
+    let mine = falls_page n d (page_of_frame pages i) inside in
+    let its = falls_page n c (page_of_frame pages g) (passes g e) in
+    let one : mine.0 ≡ its.0 = let a : Some mine.0 ≡ Some its.0 = sym mine.1 ∙ ap (page_of_frame pages) same ∙ its.1 in cc in
+    differ (sym mine.2 ∙ ap (λ (q : PageNo). q.0 % n) one ∙ its.2) in
     subst (λ r. IsLast (in_chain n (set pages frame o) d) i r) (sym (link_other next i above to apart))
     (last_agrees (in_chain n pages d) (in_chain n (set pages frame o) d) i (get_or next i None) (λ j lt. other_chain n pages frame c d o t.only differ j)
     (linked_at n pages next d i t.moving.chained.linked inside))
@@ -285,8 +288,8 @@ free_link n pages next frame r free linked = record {
   count = linked.count;
   long = length-set next frame r ∙ linked.long;
   links = λ i p e.
-    let away : i ≡ frame → ⊥ = λ same. (let bad : None ≡ Some p = sym free ∙ ap (page_of_frame pages) (sym same) ∙ e in cc) in
-    subst (λ k. IsLast (in_chain n pages (p.0 % n)) i k) (sym (get_or-set_other next frame i r None away)) (linked.links i p e);
+      let away : i ≡ frame → ⊥ = λ same. (let bad : None ≡ Some p = sym free ∙ ap (page_of_frame pages) (sym same) ∙ e in cc) in
+      subst (λ k. IsLast (in_chain n pages (p.0 % n)) i k) (sym (get_or-set_other next frame i r None away)) (linked.links i p e);
 }
 
 pub came_in : (n : ℕ) (pages : List (Option PageNo)) (heads next : List (Option ℕ)) (frame : ℕ) (p : PageNo) (above : Option ℕ)
@@ -314,11 +317,11 @@ came_in n pages heads next frame p above m free =
     } in
     let long : frame < length next = let a = m.chained.linked.long in let b = m.frame_fits in omega arith in
     let own : get_or (links_with links above (Some frame)) frame None ≡ below =
-        link_other links frame above (Some frame) (not_itself test frame n above m.gap) ∙ get_or-set_same next frame below None long in
+    link_other links frame above (Some frame) (not_itself test frame n above m.gap) ∙ get_or-set_same next frame below None long in
     let mine : IsLast other frame below =
-        last_agrees test other frame below (λ j lt. elsewhere n pages frame c (Some p) j (λ e. omega arith))
-        (last_lower test frame (limit above n) below (low_limit test frame n above m.frame_fits m.gap) (ap (falls n c) free) (between test frame n above m.gap)
-        (followed n pages heads next frame c above m)) in
+    last_agrees test other frame below (λ j lt. elsewhere n pages frame c (Some p) j (λ e. omega arith))
+    (last_lower test frame (limit above n) below (low_limit test frame n above m.frame_fits m.gap) (ap (falls n c) free) (between test frame n above m.gap)
+    (followed n pages heads next frame c above m)) in
     record {
       some = m.chained.some;
       begun = turned_starts n pages heads links frame c above (Some p) (Some frame) turned;
@@ -326,13 +329,13 @@ came_in n pages heads next frame p above m free =
         count = length-set pages frame (Some p) ∙ m.chained.linked.count;
         long = length_links links above (Some frame) ∙ length-set next frame below ∙ m.chained.linked.long;
         links = λ i q e.
-          ⊎_elim
-          (λ same. let one : p ≡ q = let a : Some p ≡ Some q = sym (get_or-set_same pages frame (Some p) None fits) ∙ ap (page_of_frame (set pages frame (Some p))) (sym same) ∙ e in cc in
-          subst (λ k. IsLast (in_chain n (set pages frame (Some p)) (q.0 % n)) k (get_or (links_with links above (Some frame)) k None)) (sym same)
-          (subst (λ r. IsLast (in_chain n (set pages frame (Some p)) (q.0 % n)) frame r) (sym own)
-          (subst (λ (x : PageNo). IsLast (in_chain n (set pages frame (Some p)) (x.0 % n)) frame below) one mine)))
-          (λ away. turned_links n pages heads links frame c above (Some p) (Some frame) turned i q away e)
-          (cases_eq i frame);
+            ⊎_elim
+            (λ same. let one : p ≡ q = let a : Some p ≡ Some q = sym (get_or-set_same pages frame (Some p) None fits) ∙ ap (page_of_frame (set pages frame (Some p))) (sym same) ∙ e in cc in
+            subst (λ k. IsLast (in_chain n (set pages frame (Some p)) (q.0 % n)) k (get_or (links_with links above (Some frame)) k None)) (sym same)
+            (subst (λ r. IsLast (in_chain n (set pages frame (Some p)) (q.0 % n)) frame r) (sym own)
+            (subst (λ (x : PageNo). IsLast (in_chain n (set pages frame (Some p)) (x.0 % n)) frame below) one mine)))
+            (λ away. turned_links n pages heads links frame c above (Some p) (Some frame) turned i q away e)
+            (cases_eq i frame);
       };
     }
 
@@ -352,9 +355,9 @@ went n pages heads next frame p above m holds =
       moving = m;
       only = λ d differ. ap (falls n d) holds ∙ ne_eqb c d (λ e. differ (sym e)) ∙ sym (here n pages frame d None fits);
       follows = last_higher other frame (limit above n) to (let lt = low_limit test frame n above m.frame_fits m.gap in omega arith)
-      (λ j a b. ⊎_elim (λ same. ap other same ∙ lacks)
-      (λ differ. ⊎_elim (λ lt. absurd (omega arith)) (λ gt. sym (agree j (λ e. omega arith)) ∙ between test frame n above m.gap j gt b) differ) (cases_order j frame))
-      (last_agrees test other frame to (λ j lt. agree j (λ e. omega arith)) (linked_at n pages next c frame m.chained.linked (chain_has n pages frame p holds)));
+          (λ j a b. ⊎_elim (λ same. ap other same ∙ lacks)
+          (λ differ. ⊎_elim (λ lt. absurd (omega arith)) (λ gt. sym (agree j (λ e. omega arith)) ∙ between test frame n above m.gap j gt b) differ) (cases_order j frame))
+          (last_agrees test other frame to (λ j lt. agree j (λ e. omega arith)) (linked_at n pages next c frame m.chained.linked (chain_has n pages frame p holds)));
     } in
     record {
       some = m.chained.some;
@@ -363,10 +366,10 @@ went n pages heads next frame p above m holds =
         count = length-set pages frame None ∙ m.chained.linked.count;
         long = length_links next above to ∙ m.chained.linked.long;
         links = λ i q e.
-          ⊎_elim
-          (λ same. let bad : None ≡ Some q = sym (get_or-set_same pages frame None None fits) ∙ ap (page_of_frame (set pages frame None)) (sym same) ∙ e in cc)
-          (λ away. turned_links n pages heads next frame c above None to turned i q away e)
-          (cases_eq i frame);
+            ⊎_elim
+            (λ same. let bad : None ≡ Some q = sym (get_or-set_same pages frame None None fits) ∙ ap (page_of_frame (set pages frame None)) (sym same) ∙ e in cc)
+            (λ away. turned_links n pages heads next frame c above None to turned i q away e)
+            (cases_eq i frame);
       };
     }
 
@@ -404,7 +407,7 @@ came_in_by pages heads next heads2 next2 frame chain p above below chained fits 
     let done = came_in n pages heads next frame p above m free in
     let hs : start_with heads (p.0 % n) above (Some frame) ≡ heads2 = ap (λ k. start_with heads k above (Some frame)) (sym c) ∙ sym h in
     let ns : links_with (set next frame (follower heads next (p.0 % n) above)) above (Some frame) ≡ next2 =
-        ap (λ r. links_with (set next frame r) above (Some frame)) (ap (λ k. follower heads next k above) (sym c) ∙ sym b) ∙ sym l in
+    ap (λ r. links_with (set next frame r) above (Some frame)) (ap (λ k. follower heads next k above) (sym c) ∙ sym b) ∙ sym l in
     subst (λ k. IsChained k (set pages frame (Some p)) heads2 next2) (sym (length-set pages frame (Some p)))
     (subst (λ xs. IsChained n (set pages frame (Some p)) xs next2) hs
     (subst (λ xs. IsChained n (set pages frame (Some p)) (start_with heads (p.0 % n) above (Some frame)) xs) ns done))

@@ -1,9 +1,9 @@
 -- Which frame is the victim, and which the last dirty one.
-use Rattle.std.proofs.Common.{◌≡◌, ◌∙◌, ◌+◌, ◌<◌, ◌≤◌, ◌⊎◌, ◌&&◌, Bool, true, false, not, cond, List, [], ◌∷◌, ℕ, zero, suc, Option, Some, None, refl, sym, ap, subst, nat_lt, arith, ⊎_elim, length, get_or, map}
+use Rattle.std.proofs.Common.{◌≡◌, ◌∙◌, ◌+◌, ◌<◌, ◌≤◌, ◌&&◌, Bool, true, false, not, cond, List, [], ◌∷◌, ℕ, zero, suc, Option, Some, None, refl, sym, ap, nat_lt, arith, length, get_or, map}
 use Rattle.std.specs.List.{position, position_or_len}
-use Rattle.std.specs.Option.{option_or, is_none, IfSome}
-use Rattle.std.proofs.lemmas.Bool.{false≢true, cond-true, cond-false, lt-ltb, le-ltb, cases_lt, cases_Bool}
-use Rattle.isp_recency.specs.Recent.{RecencyList, has, last_where}
+use Rattle.std.specs.Option.{is_none, IfSome}
+use Rattle.std.proofs.lemmas.Bool.{false≢true, cond-true, cond-false, lt-ltb, le-ltb}
+use Rattle.isp_recency.specs.Recent.{has, last_where}
 use Rattle.isp_recency.proofs.RecentLaws.{last_passes, none_passes, last_agrees}
 use Rattle.isp_pool.specs.declared.frames.Frame.{Frame}
 use Rattle.isp_pool.specs.Frames.{frame_in, is_held, is_dirty, is_pinned, is_unpinned, is_cleanable, IsFirstFree}
@@ -98,5 +98,5 @@ pub none_cleanable : (frames : List (Option Frame)) (recent : List ℕ) → ((j 
     → last_where (λ i. is_cleanable (frame_in frames i)) recent ≡ None → (i : ℕ) → is_dirty (frame_in frames i) ≡ true → is_pinned (frame_in frames i) ≡ true
 none_cleanable frames recent members e i dirty =
     let held : is_held (frame_in frames i) ≡ true = let P : Option Frame → Type 0 = λ o. is_dirty o ≡ true → is_held o ≡ true in
-        elim (frame_in frames i) as P [ None ↦ λ h. absurd (false≢true h) | Some f ↦ λ h. refl ] dirty in
+    elim (frame_in frames i) as P [ None ↦ λ h. absurd (false≢true h) | Some f ↦ λ h. refl ] dirty in
     (dirty_stays (frame_in frames i) dirty (none_passes (λ j. is_cleanable (frame_in frames j)) recent e i (members i ∙ held))).1

@@ -1,14 +1,14 @@
 -- What a pool keeps beside its frames, after each write.
-use Rattle.std.proofs.Common.{◌≡◌, ◌≢◌, ◌∙◌, ◌+◌, ◌-◌, ◌<◌, ◌≤◌, ◌⊎◌, ◌&&◌, Bool, true, false, not, cond, List, [], ◌∷◌, ◌++◌, ℕ, zero, suc, Option, Some, None, refl, sym, ap, subst, nat_eq, arith, ⊎_elim, length, get_or, set, length-set, length-append, map, take, drop, replicate, filter}
-use Rattle.std.specs.List.{count_by, sum_by, IsDistinct}
+use Rattle.std.proofs.Common.{◌≡◌, ◌≢◌, ◌∙◌, ◌+◌, ◌<◌, ◌≤◌, ◌&&◌, Bool, true, false, not, cond, List, [], ◌∷◌, ◌++◌, ℕ, zero, suc, Option, Some, None, refl, sym, ap, subst, arith, ⊎_elim, length, get_or, set, length-set, length-append, map, take, drop, replicate, filter}
+use Rattle.std.specs.List.{count_by, sum_by}
 use Rattle.std.specs.Option.{option_map}
 use Rattle.std.proofs.lemmas.Bool.{false≢true, cases_eq, cases_lt, cases_Bool, cond-true, cond-false}
-use Rattle.std.proofs.lemmas.List.{get_or_past, get_or-set_same, get_or-set_other, set-get_or, set-set, map-set, length-take-le, length-drop, length-replicate, length-map}
+use Rattle.std.proofs.lemmas.List.{get_or_past, get_or-set_same, get_or-set_other, set-get_or, set-set, map-set, length-take-le, length-drop, length-replicate}
 use Rattle.std.proofs.lemmas.List.Sums.{sum_by-set, count_by-le-length, length-filter}
 use Rattle.isp_page.specs.declared.page.Page.{Page}
 use Rattle.isp_page.specs.declared.page.PageNo.{PageNo}
 use Rattle.isp_recency.specs.Recent.{RecencyList, IsRecency, has, without}
-use Rattle.isp_recency.proofs.RecentLaws.{has_first, has_later, has_without, lacks_without, has_cases}
+use Rattle.isp_recency.proofs.RecentLaws.{has_first, has_later, has_without, has_cases}
 use Rattle.isp_pool.specs.declared.frames.Frame.{Frame}
 use Rattle.isp_pool.specs.Frames.{PoolState, IsPool, frame_in, frame_at, is_held, page_of, is_dirty, is_pinned, is_unpinned, is_cleanable, edited, with_frame, changed, overwritten, fresh_frame, IsFirstFree, one_if}
 use Rattle.isp_pool.specs.Kept.{Keeps}
@@ -56,28 +56,28 @@ stored frames pages recency unpinned cleanable dirty fresh k i f recency2 dirty2
     record {
       by_page = ap (λ xs. set xs i (Some f.page)) k.by_page ∙ sym (map-set page_of frames i (Some f));
       distinct = λ j l q ej el.
-        let from : (m : ℕ) → page_of (frame_in now m) ≡ Some q → (m ≡ i → ⊥) → page_of (frame_in frames m) ≡ Some q = λ m em d. ap page_of (sym (away m d)) ∙ em in
-        let its : (m : ℕ) → page_of (frame_in now m) ≡ Some q → m ≡ i → Some q ≡ Some f.page = λ m em e. sym em ∙ ap (λ n. page_of (frame_in now n)) e ∙ ap page_of here in
-        ⊎_elim
-        (λ je. ⊎_elim (λ le. je ∙ sym le) (λ ld. je ∙ sym (only l (from l el ld ∙ its j ej je))) (cases_eq l i))
-        (λ jd. ⊎_elim (λ le. only j (from j ej jd ∙ its l el le) ∙ sym le) (λ ld. k.distinct j l q (from j ej jd) (from l el ld)) (cases_eq l i))
-        (cases_eq j i);
+          let from : (m : ℕ) → page_of (frame_in now m) ≡ Some q → (m ≡ i → ⊥) → page_of (frame_in frames m) ≡ Some q = λ m em d. ap page_of (sym (away m d)) ∙ em in
+          let its : (m : ℕ) → page_of (frame_in now m) ≡ Some q → m ≡ i → Some q ≡ Some f.page = λ m em e. sym em ∙ ap (λ n. page_of (frame_in now n)) e ∙ ap page_of here in
+          ⊎_elim
+          (λ je. ⊎_elim (λ le. je ∙ sym le) (λ ld. je ∙ sym (only l (from l el ld ∙ its j ej je))) (cases_eq l i))
+          (λ jd. ⊎_elim (λ le. only j (from j ej jd ∙ its l el le) ∙ sym le) (λ ld. k.distinct j l q (from j ej jd) (from l el ld)) (cases_eq l i))
+          (cases_eq j i);
       whole = λ j g e.
-        ⊎_elim
-        (λ je. let same : f ≡ g = let a : Some f ≡ Some g = sym here ∙ ap (frame_in now) (sym je) ∙ e in cc in ap (λ (x : Frame). length x.content.bytes) (sym same) ∙ long)
-        (λ jd. k.whole j g (sym (away j jd) ∙ e)) (cases_eq j i);
+          ⊎_elim
+          (λ je. let same : f ≡ g = let a : Some f ≡ Some g = sym here ∙ ap (frame_in now) (sym je) ∙ e in cc in ap (λ (x : Frame). length x.content.bytes) (sym same) ∙ long)
+          (λ jd. k.whole j g (sym (away j jd) ∙ e)) (cases_eq j i);
       most = subst (λ n. n ≤ 4096) (sym (length-set frames i (Some f))) k.most;
       size = size ∙ k.size ∙ sym (length-set frames i (Some f));
       recent = λ j.
-        ⊎_elim (λ je. ap (has recency2.members) je ∙ mine ∙ sym (ap is_held here) ∙ ap (λ n. is_held (frame_in now n)) (sym je))
-        (λ jd. others j jd ∙ k.recent j ∙ ap is_held (sym (away j jd))) (cases_eq j i);
+          ⊎_elim (λ je. ap (has recency2.members) je ∙ mine ∙ sym (ap is_held here) ∙ ap (λ n. is_held (frame_in now n)) (sym je))
+          (λ jd. others j jd ∙ k.recent j ∙ ap is_held (sym (away j jd))) (cases_eq j i);
       free_to_go = ap (λ xs. set xs i (not f.pinned)) k.free_to_go ∙ sym (map-set is_unpinned frames i (Some f));
       free_to_clean = ap (λ xs. set xs i (f.dirty && not f.pinned)) k.free_to_clean ∙ sym (map-set is_cleanable frames i (Some f));
       changed =
-        let counted : sum_by (λ o. cond (is_dirty o) 1 0) now + one_if (is_dirty (frame_in frames i)) ≡ sum_by (λ o. cond (is_dirty o) 1 0) frames + one_if f.dirty =
-            sum_by-set (λ o. cond (is_dirty o) 1 0) frames i (Some f) None lt in
-        let was : dirty ≡ sum_by (λ o. cond (is_dirty o) 1 0) frames = k.changed in
-        omega arith;
+          let counted : sum_by (λ o. cond (is_dirty o) 1 0) now + one_if (is_dirty (frame_in frames i)) ≡ sum_by (λ o. cond (is_dirty o) 1 0) frames + one_if f.dirty =
+          sum_by-set (λ o. cond (is_dirty o) 1 0) frames i (Some f) None lt in
+          let was : dirty ≡ sum_by (λ o. cond (is_dirty o) 1 0) frames = k.changed in
+          omega arith;
       first = first;
     }
 
@@ -88,12 +88,12 @@ first_stays frames fresh i f first held =
     record {
       within = subst (λ n. fresh ≤ n) (sym (length-set frames i (Some f))) first.within;
       held = λ j low.
-        ⊎_elim (λ e. ap (λ n. is_held (frame_in (set frames i (Some f)) n)) e ∙ ap is_held (get_or-set_same frames i (Some f) None lt))
-        (λ d. ap is_held (get_or-set_other frames i j (Some f) None d) ∙ first.held j low) (cases_eq j i);
+          ⊎_elim (λ e. ap (λ n. is_held (frame_in (set frames i (Some f)) n)) e ∙ ap is_held (get_or-set_same frames i (Some f) None lt))
+          (λ d. ap is_held (get_or-set_other frames i j (Some f) None d) ∙ first.held j low) (cases_eq j i);
       free = λ low.
-        let was : frame_in frames fresh ≡ None = first.free (subst (λ n. fresh < n) (length-set frames i (Some f)) low) in
-        let d : fresh ≡ i → ⊥ = λ e. false≢true (sym (ap is_held was) ∙ ap (λ n. is_held (frame_in frames n)) e ∙ held) in
-        get_or-set_other frames i fresh (Some f) None d ∙ was;
+          let was : frame_in frames fresh ≡ None = first.free (subst (λ n. fresh < n) (length-set frames i (Some f)) low) in
+          let d : fresh ≡ i → ⊥ = λ e. false≢true (sym (ap is_held was) ∙ ap (λ n. is_held (frame_in frames n)) e ∙ held) in
+          get_or-set_other frames i fresh (Some f) None d ∙ was;
     }
 
 -- a frame keeps its page
@@ -106,8 +106,8 @@ kept_page frames pages recency unpinned cleanable dirty fresh k i was f dirty2 e
     let held : is_held (frame_in frames i) ≡ true = ap is_held e in
     let page : page_of (frame_in frames i) ≡ Some f.page = ap page_of e ∙ ap Some (sym same) in
     let all = stored frames pages recency unpinned cleanable dirty fresh k i f recency dirty2 fresh (held_below frames i held) long
-        (λ j h. k.distinct j i f.page h page) refl (k.recent i ∙ held) (λ j d. refl) (ap (λ o. dirty2 + one_if (is_dirty o)) e ∙ count)
-        (first_stays frames fresh i f k.first held) in
+    (λ j h. k.distinct j i f.page h page) refl (k.recent i ∙ held) (λ j d. refl) (ap (λ o. dirty2 + one_if (is_dirty o)) e ∙ count)
+    (first_stays frames fresh i f k.first held) in
     let there : get_or pages i None ≡ Some f.page = ap (λ xs. get_or xs i None) k.by_page ∙ page_at_map frames i ∙ page in
     subst (λ ps. Keeps (set frames i (Some f)) ps recency (set unpinned i (not f.pinned)) (set cleanable i (f.dirty && not f.pinned)) dirty2 fresh)
     (stands pages i None (Some f.page) there) all
@@ -128,8 +128,13 @@ marked frames frames2 pages recency unpinned cleanable dirty fresh k i d n dirty
 
 pub length-overwritten : (xs : List ℕ) (at : ℕ) (bytes : List ℕ) → at + length bytes ≤ length xs → length (overwritten xs at bytes) ≡ length xs
 length-overwritten xs at bytes le =
-    omega (arith, length-append (take at xs) (bytes ++ drop (at + length bytes) xs), length-append bytes (drop (at + length bytes) xs),
-    length-take-le at xs (omega arith), length-drop (at + length bytes) xs)
+    omega (
+      arith,
+      length-append (take at xs) (bytes ++ drop (at + length bytes) xs),
+      length-append bytes (drop (at + length bytes) xs),
+      length-take-le at xs (omega arith),
+      length-drop (at + length bytes) xs,
+    )
 
 pub written : (frames frames2 : List (Option Frame)) (pages : List (Option PageNo)) (recency : RecencyList) (unpinned cleanable : List Bool) (dirty fresh : ℕ)
     → Keeps frames pages recency unpinned cleanable dirty fresh
@@ -182,8 +187,8 @@ used_again frames pages recency recency2 unpinned cleanable dirty fresh k i ther
       most = k.most;
       size = ap (λ v. v.size) r ∙ k.size;
       recent = λ j.
-        ⊎_elim (λ e. ap (λ xs. has xs j) members ∙ ap (has (i ∷ without recency.members i)) e ∙ has_first i (without recency.members i) ∙ sym there ∙ ap (has recency.members) (sym e) ∙ k.recent j)
-        (λ d. ap (λ xs. has xs j) members ∙ fronted_has i j recency.members d ∙ k.recent j) (cases_eq j i);
+          ⊎_elim (λ e. ap (λ xs. has xs j) members ∙ ap (has (i ∷ without recency.members i)) e ∙ has_first i (without recency.members i) ∙ sym there ∙ ap (has recency.members) (sym e) ∙ k.recent j)
+          (λ d. ap (λ xs. has xs j) members ∙ fronted_has i j recency.members d ∙ k.recent j) (cases_eq j i);
       free_to_go = k.free_to_go;
       free_to_clean = k.free_to_clean;
       changed = k.changed;
@@ -261,9 +266,9 @@ changed_by s i at bytes b lt e =
     let one : List (Option Frame) = set s.frames i (option_map write (frame_in s.frames i)) in
     let P : Option Frame → Type 0 = λ o. b ≡ is_pinned o → option_map mark (option_map write o) ≡ option_map both o in
     let same : option_map mark (option_map write (frame_in s.frames i)) ≡ option_map both (frame_in s.frames i) =
-        elim (frame_in s.frames i) as P [ None ↦ λ h. refl | Some f ↦ λ h. ap (λ n. let g : Frame = record (both f) { pinned = n } in Some g) h ] e in
+    elim (frame_in s.frames i) as P [ None ↦ λ h. refl | Some f ↦ λ h. ap (λ n. let g : Frame = record (both f) { pinned = n } in Some g) h ] e in
     let frames : set one i (option_map mark (frame_in one i)) ≡ set s.frames i (option_map both (frame_in s.frames i)) =
-        ap (λ o. set one i (option_map mark o)) (get_or-set_same s.frames i (option_map write (frame_in s.frames i)) None lt)
-        ∙ set-set s.frames i (option_map write (frame_in s.frames i)) (option_map mark (option_map write (frame_in s.frames i)))
-        ∙ ap (set s.frames i) same in
+    ap (λ o. set one i (option_map mark o)) (get_or-set_same s.frames i (option_map write (frame_in s.frames i)) None lt)
+    ∙ set-set s.frames i (option_map write (frame_in s.frames i)) (option_map mark (option_map write (frame_in s.frames i)))
+    ∙ ap (set s.frames i) same in
     ap (λ fs. let t : PoolState = record { frames = fs; recent = s.recent } in t) frames

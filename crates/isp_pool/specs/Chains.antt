@@ -1,5 +1,5 @@
 -- Chains of frames by page number: the pages by frame, and where each chain begins and goes on. A chain's frames fall.
-use Rattle.std.specs.Prelude.{ℕ, ◌≡◌, ◌≢◌, ◌<◌, ◌≤◌, ◌==◌, ◌%◌, Bool, true, false, Option, Some, None, List, length, slice_index_or, slice_set}
+use Rattle.std.specs.Prelude.{ℕ, ◌≡◌, ◌≢◌, ◌<◌, ◌==◌, ◌%◌, Bool, true, false, Option, Some, None, List, length, slice_index_or, slice_set}
 use Rattle.isp_page.specs.declared.page.PageNo.{PageNo}
 
 -- the page of a frame

@@ -1,5 +1,5 @@
 -- The state of a buffer pool: what each frame holds, and the order of use; what each call leaves of it.
-use Rattle.std.specs.Prelude.{ℕ, ◌≡◌, ◌+◌, ◌<◌, ◌≤◌, Bool, true, false, not, ◌&&◌, cond, Option, Some, None, List, [], ◌∷◌, ◌++◌, take, drop, length, nat_eq, slice_index_or, slice_set, position, is_some, is_none}
+use Rattle.std.specs.Prelude.{ℕ, ◌≡◌, ◌+◌, ◌<◌, ◌≤◌, Bool, true, false, not, ◌&&◌, cond, Option, Some, None, List, ◌∷◌, ◌++◌, take, drop, length, nat_eq, slice_index_or, slice_set, position, is_none}
 use Rattle.std.specs.List.{IsDistinct}
 use Rattle.std.specs.Option.{option_map, option_or}
 use Rattle.isp_page.specs.declared.page.Page.{Page}

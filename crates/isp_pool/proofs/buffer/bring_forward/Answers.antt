@@ -1,5 +1,4 @@
-use Rattle.std.proofs.Common.{arith, sym, ap, subst, ◌∙◌, ◌≡◌, ◌<◌, ◌≤◌, length, true, false, None, Some, not, ◌&&◌}
-use Rattle.isp_recency.specs.Recent.{has}
+use Rattle.std.proofs.Common.{sym, ap, ◌∙◌}
 use Rattle.isp_recency.proofs.RecentLaws.{without_absent, list_of}
 use Rattle.std.proofs.Common.{◌∷◌}
 use Rattle.isp_pool.proofs.buffer.bring_forward.Goals as goal

@@ -1,5 +1,5 @@
-use Rattle.std.proofs.Common.{arith, sym, ap, subst, ◌∙◌, ◌≡◌, ◌<◌, ◌≤◌, ◌+◌, length, true, false, None, Some, not, ◌&&◌, set, get_or, ℕ, refl, Option}
-use Rattle.isp_pool.specs.Frames.{frame_at, with_frame, overwritten, is_held}
+use Rattle.std.proofs.Common.{ap, ◌∙◌, ◌≡◌, true}
+use Rattle.isp_pool.specs.Frames.{with_frame, overwritten}
 use Rattle.isp_pool.proofs.PoolLaws.{changed_by, held_below}
 use Rattle.isp_pool.proofs.buffer.Pool.change.Goals as goal
 

@@ -1,4 +1,4 @@
-use Rattle.std.proofs.Common.{arith, sym, ap, subst, ◌∙◌, ◌≡◌, ◌<◌, ◌≤◌, ◌+◌, length, true, false, None, Some, not, ◌&&◌, set, get_or, ℕ}
+use Rattle.std.proofs.Common.{ap, subst, ◌∙◌}
 use Rattle.isp_pool.specs.Chains.{IsFound, page_of_frame}
 use Rattle.isp_pool.specs.Frames.{frame_at, page_of}
 use Rattle.isp_pool.proofs.PoolLaws.{page_at_map}

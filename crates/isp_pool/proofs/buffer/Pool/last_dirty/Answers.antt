@@ -1,6 +1,6 @@
-use Rattle.std.proofs.Common.{arith, sym, ap, subst, ◌∙◌, ◌≡◌, ◌<◌, ◌≤◌, ◌+◌, length, true, false, None, Some, not, ◌&&◌, set, get_or, ℕ, refl}
+use Rattle.std.proofs.Common.{sym, ap, ◌∙◌, ◌≡◌, ℕ, refl}
 use Rattle.isp_recency.specs.Recent.{has, last_where}
-use Rattle.isp_pool.specs.Frames.{PoolState, frame_at, frame_in, is_held, is_dirty, is_pinned, is_cleanable}
+use Rattle.isp_pool.specs.Frames.{frame_at, frame_in, is_held, is_cleanable}
 use Rattle.isp_pool.proofs.OrderLaws.{by_flags, last_cleanable, none_cleanable}
 use Rattle.isp_pool.proofs.buffer.Pool.last_dirty.Goals as goal
 

@@ -1,7 +1,7 @@
-use Rattle.std.proofs.Common.{arith, sym, ap, subst, ◌∙◌, ◌≡◌, ◌<◌, ◌≤◌, ◌+◌, length, true, false, None, Some, not, ◌&&◌, set, get_or, ℕ, refl, Option}
+use Rattle.std.proofs.Common.{arith, sym, ap, subst, ◌∙◌, ◌+◌, not, set}
 use Rattle.isp_pool.specs.Frames.{frame_at, is_held, is_dirty, one_if}
 use Rattle.isp_pool.specs.Kept.{Keeps}
-use Rattle.isp_pool.proofs.PoolLaws.{marked, few_dirty, one_dirty}
+use Rattle.isp_pool.proofs.PoolLaws.{marked, few_dirty}
 use Rattle.isp_pool.proofs.buffer.Pool.mark.Goals as goal
 
 pub recount-self-inside-requires-clause-few : goal.recount-self-inside-requires-clause-few

@@ -1,4 +1,3 @@
-use Rattle.std.proofs.Common.{arith, sym, ap, subst, ◌∙◌, ◌≡◌, ◌<◌, ◌≤◌, length, true, false, None, Some, not, ◌&&◌}
 use Rattle.isp_pool.proofs.PoolLaws.{all_free}
 use Rattle.isp_pool.proofs.buffer.Pool.new.Goals as goal
 

@@ -1,4 +1,4 @@
-use Rattle.std.proofs.Common.{arith, sym, ap, subst, ◌∙◌, ◌≡◌, ◌<◌, ◌≤◌, length, true, false, None, Some, not, ◌&&◌}
+use Rattle.std.proofs.Common.{ap, ◌∙◌, ◌≡◌, true}
 use Rattle.isp_recency.specs.Recent.{has}
 use Rattle.isp_pool.specs.Frames.{frame_at, is_held}
 use Rattle.isp_pool.proofs.PoolLaws.{used_again}

@@ -1,7 +1,7 @@
-use Rattle.std.proofs.Common.{arith, sym, ap, subst, ◌∙◌, ◌≡◌, ◌<◌, ◌≤◌, ◌+◌, length, true, false, None, Some, not, ◌&&◌, set, get_or, ℕ, refl, Option}
+use Rattle.std.proofs.Common.{arith, sym, ap, subst, ◌∙◌, ◌≡◌, ◌<◌, length, true, ℕ, refl, Option}
 use Rattle.std.specs.Option.{option_or}
 use Rattle.isp_recency.specs.Recent.{has, last_where}
-use Rattle.isp_pool.specs.Frames.{PoolState, frame_at, frame_in, is_held, is_pinned, is_unpinned, victim_of}
+use Rattle.isp_pool.specs.Frames.{frame_at, frame_in, is_held, is_unpinned, victim_of}
 use Rattle.isp_pool.proofs.OrderLaws.{by_flags, first_place, no_place, victim_unpinned, all_pinned, all_held}
 use Rattle.isp_pool.proofs.buffer.Pool.victim.Goals as goal
 
@@ -33,7 +33,7 @@ returns-clause-none c = λ e frame lt.
     let p = c.self.inside in
     let now = c.args.self.now in
     let held : is_held (frame_at now frame) ≡ true =
-        ap (λ v. is_held (frame_at v frame)) (sym c.self.view_is)
-        ∙ all_held p.frames.items p.fresh c.self.invariant.first (omega (arith, c.len.ensures)) frame (subst (λ v. frame < length v.frames) (sym c.self.view_is) lt) in
+    ap (λ v. is_held (frame_at v frame)) (sym c.self.view_is)
+    ∙ all_held p.frames.items p.fresh c.self.invariant.first (omega (arith, c.len.ensures)) frame (subst (λ v. frame < length v.frames) (sym c.self.view_is) lt) in
     all_pinned now.frames now.recent (λ j. ap (λ v. has v.recent j) (sym c.self.view_is) ∙ c.self.invariant.recent j ∙ ap (λ v. is_held (frame_at v j)) c.self.view_is)
     (sym (last c ∙ ap (λ v. last_where (λ i. is_unpinned (frame_at v i)) v.recent) c.self.view_is) ∙ e) frame held

@@ -1,4 +1,4 @@
-use Rattle.std.proofs.Common.{arith, sym, ap, subst, ◌∙◌, ◌≡◌, ◌<◌, ◌≤◌, length, true, false, None, Some, not, ◌&&◌}
+use Rattle.std.proofs.Common.{ap, ◌∙◌}
 use Rattle.isp_pool.specs.Frames.{frame_at, is_held}
 use Rattle.isp_pool.proofs.PoolLaws.{written}
 use Rattle.isp_pool.proofs.buffer.Pool.write.Goals as goal

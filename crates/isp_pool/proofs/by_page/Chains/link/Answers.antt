@@ -1,4 +1,4 @@
-use Rattle.std.proofs.Common.{arith, length, subst, sym, ap, ◌∙◌, ◌≡◌, ◌%◌, ◌<◌, Some, None}
+use Rattle.std.proofs.Common.{arith, length, subst, sym, ap, ◌∙◌, ◌≡◌, ◌%◌, ◌<◌, None}
 use Rattle.isp_pool.specs.Chains.{page_of_frame, follower}
 use Rattle.isp_pool.proofs.ChainLaws.{came_in_by, gap_in}
 use Rattle.isp_pool.proofs.by_page.Chains.link.Goals as goal
