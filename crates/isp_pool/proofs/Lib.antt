@@ -1,0 +1,4 @@
+pub mod ChainLaws
+pub mod PoolLaws
+pub mod OrderLaws
+pub mod StateLaws

@@ -1,0 +1,2 @@
+pub mod RecentLaws
+pub mod Places
