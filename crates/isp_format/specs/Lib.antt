@@ -1,0 +1,6 @@
+pub mod Contents
+pub mod Control
+pub mod Doublewrite
+pub mod Log
+pub mod Numbers
+pub mod Ranges
