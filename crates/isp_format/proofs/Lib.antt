@@ -1,0 +1,2 @@
+pub mod LogOnce
+pub mod LogWalks
