@@ -1,2 +1,3 @@
 pub mod LogOnce
 pub mod LogWalks
+pub mod Places

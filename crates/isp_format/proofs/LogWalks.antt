@@ -22,6 +22,7 @@ slice_same one other at (suc size) same =
     λ i. first i ∷ slice_same one other (suc at) size (rest_same one other at size same) i
 
 pub number_same : (one other : Image) (at size : ℕ) → SameOn one other at size → number_at size one at ≡ number_at size other at
+unfolding number_at
 number_same one other at size same = ap (big_number size) (slice_same one other at size same)
 
 -- the same on a part of the places

@@ -1,0 +1,9 @@
+//! The redo log of a file: batches of mini-transactions, each behind a gate byte that is opened once its body is on the
+//! disk. What was appended is never half there: the log is whole up to its first closed gate, whatever a stop left behind
+//! it.
+#![tactic(auto)]
+
+mod log;
+mod write;
+
+pub use log::Log;
