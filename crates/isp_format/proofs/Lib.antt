@@ -1,3 +1,3 @@
 pub mod LogOnce
 pub mod LogWalks
-pub mod Places
+pub mod Offsets

@@ -6,7 +6,7 @@ use Rattle.std.proofs.lemmas.List.{append-nil}
 use Rattle.isp_disk.specs.Moments.{Image, put, slice}
 use Rattle.isp_format.specs.Numbers.{bytes_of, number_at}
 use Rattle.isp_format.proofs.LogWalks.{slice_same}
-use Rattle.isp_format.proofs.Places.{put_before, put_first, slice_put}
+use Rattle.isp_format.proofs.Offsets.{put_before, put_first, slice_put}
 
 module _ (image : Image) (at : ℕ) (size body : List ℕ) (long : length size ≡ 4) where
   abbrev laid : Image

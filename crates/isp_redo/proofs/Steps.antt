@@ -7,7 +7,7 @@ use Rattle.isp_disk.proofs.Moments.{agree_wider, agree_on}
 use Rattle.isp_format.specs.Log.{IsBatch, IsBody, IsLog, Transaction, log_bytes, log_of, log_place}
 use Rattle.isp_format.specs.Numbers.{number_at}
 use Rattle.isp_format.proofs.LogWalks.{SameOn, log_inside, log_same, log_forward, one_more, closed, walked, walk_same, walk_ends, number_same, slice_same}
-use Rattle.isp_format.proofs.Places.{out_before, out_behind, range_within}
+use Rattle.isp_format.proofs.Offsets.{out_before, out_behind, range_within}
 use Rattle.isp_redo.specs.Changes.{HasLogOf, in_log}
 
 -- the log before a range that was written is the same

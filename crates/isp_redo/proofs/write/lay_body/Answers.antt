@@ -2,7 +2,7 @@ use Rattle.std.proofs.Common.{rules, ◌≡◌, ◌+◌, ◌≤◌, ℕ, List, [
 use Rattle.isp_disk.specs.Moments.{Image, in_range, put, slice}
 use Rattle.isp_disk.proofs.Moments.{begins, writes, keeps}
 use Rattle.isp_format.specs.Numbers.{bytes_of}
-use Rattle.isp_format.proofs.Places.{range_within}
+use Rattle.isp_format.proofs.Offsets.{range_within}
 use Rattle.isp_redo.proofs.Laying.{laid_body, laid_gate, laid_size, number_laid}
 use Rattle.isp_redo.proofs.write.lay_body.Goals as goal
 

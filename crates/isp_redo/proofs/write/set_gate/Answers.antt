@@ -1,7 +1,7 @@
 use Rattle.std.proofs.Common.{rules, ◌≡◌, ◌+◌, ◌≤◌, ℕ, List, [], ◌∷◌, length, IsSome, OnOk, refl, sym, ◌∙◌, ap, arith}
 use Rattle.isp_disk.specs.Moments.{Agree, Quiet, in_range, put}
 use Rattle.isp_disk.proofs.Moments.{begins, writes, keeps}
-use Rattle.isp_format.proofs.Places.{put_first}
+use Rattle.isp_format.proofs.Offsets.{put_first}
 use Rattle.isp_redo.proofs.write.set_gate.Goals as goal
 
 pub returns-in_err-sync-clause-leaves : goal.returns-in_err-sync-clause-leaves
