@@ -1,0 +1,5 @@
+pub mod Headers
+pub mod Local
+pub mod Places
+pub mod Puts
+pub mod Slices
