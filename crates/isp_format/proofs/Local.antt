@@ -6,9 +6,10 @@ use Rattle.isp_disk.specs.Moments.{Image, Region, Agree, in_range, slice}
 use Rattle.isp_format.specs.Contents.{StandsFor, ranges_of}
 use Rattle.isp_format.specs.Control.{IsControl, IsFanout, IsPages, fanout_in, file_name, made_gate, pages_in}
 use Rattle.isp_format.specs.Doublewrite.{HasCopies, IsCopyList, area, area_place, copies, copies_from, copies_place, copy_at, copy_count, count_place, doublewrite_gate, laid, list_place, most_copies}
-use Rattle.isp_format.specs.Log.{IsBatch, IsLog, Transaction, log_bytes, log_of, log_place}
+use Rattle.isp_format.specs.Log.{IsLog, Transaction, log_bytes, log_of, log_place}
 use Rattle.isp_format.specs.Numbers.{number_at}
 use Rattle.isp_format.specs.Ranges.{Contents, Range, page_bytes, puts}
+use Rattle.isp_format.proofs.LogWalks.{log_inside, log_same}
 use Rattle.isp_format.proofs.Puts.{absorbs}
 use Rattle.isp_format.proofs.Slices.{number_agree, slice_agree}
 
@@ -85,28 +86,10 @@ pub laid_same : (one other : Image) → SameCopies one other → ((place : ℕ) 
 laid_same one other same areas = λ i. puts (copies_same one other same i) (λ place. areas place i)
 
 -- the log reads its own bytes
-pub batch_same : (pages : ℕ) (one other : Image) (at : ℕ) (transactions : List Transaction) (next : ℕ) → ((place : ℕ) → place < log_bytes → one place ≡ other place) → IsBatch pages one at transactions next → IsBatch pages other at transactions next
-batch_same pages one other at transactions next same batch =
-    let ends : at + 5 + length batch.body < log_bytes = omega (arith, batch.behind, batch.inside) in
-    record {
-      body = batch.body;
-      gate = sym (same at (omega (arith, ends))) ∙ batch.gate;
-      size = sym (number_agree 4 one other (at + 1) (λ place low high. same place (omega (arith, high, ends)))) ∙ batch.size;
-      stands = sym (slice_agree one other (at + 5) (length batch.body) (λ place low high. same place (omega (arith, high, ends)))) ∙ batch.stands;
-      behind = batch.behind;
-      inside = batch.inside;
-      means = batch.means;
-    }
-
-pub log_same : (pages : ℕ) (one other : Image) (at : ℕ) (batches : List (List Transaction)) (end : ℕ) → at < log_bytes → ((place : ℕ) → place < log_bytes → one place ≡ other place) → IsLog pages one at batches end → IsLog pages other at batches end
-log_same pages one other at [] end inside same log = ((λ gate. log.0 (same at inside ∙ gate)), log.1)
-log_same pages one other at (batch ∷ batches) end inside same log =
-    (log.0, batch_same pages one other at batch log.0 same log.1, log_same pages one other log.0 batches end log.1.inside same log.2)
-
--- in terms of an image of the file
 pub log_kept : (pages : ℕ) (one other : Image) (batches : List (List Transaction)) (end : ℕ) → SameIn log_place log_bytes one other → IsLog pages (log_of one) 0 batches end → IsLog pages (log_of other) 0 batches end
 log_kept pages one other batches end same log =
-    log_same pages (log_of one) (log_of other) 0 batches end (omega arith) (λ place inside. same (log_place + place) (omega arith) (omega (arith, inside))) log
+    let within = log_inside pages (log_of one) 0 batches end log (omega arith) in
+    log_same pages (log_of one) (log_of other) 0 batches end log (λ k below. same (log_place + (0 + k)) (omega arith) (omega (arith, below, within)))
 
 -- An image with the control block and the log of another, which keeps the second rule, stands for the same contents where
 -- the ranges of the log make the same of both.

@@ -91,7 +91,10 @@ transactions_once pages (x ∷ xs) (y ∷ ys) few ones all same =
 -- a batch at a place is one, and so is the place of the next gate
 pub batch_once : (pages : ℕ) (log : Image) (at : ℕ) (one other : List Transaction) (next then_next : ℕ) → pages ≤ 65536 → IsBatch pages log at one next → IsBatch pages log at other then_next → (one ≡ other) × (next ≡ then_next)
 batch_once pages log at one other next then_next few one_is other_is =
-    let long : length one_is.body ≡ length other_is.body = sym one_is.size ∙ other_is.size in
+    let one_small : length one_is.body < log_bytes = omega (arith, one_is.behind, one_is.inside) in
+    let other_small : length other_is.body < log_bytes = omega (arith, other_is.behind, other_is.inside) in
+    let sizes : bytes_of 4 (length one_is.body) ++ [] ≡ bytes_of 4 (length other_is.body) ++ [] = ap (λ (bytes : List ℕ). bytes ++ []) (sym one_is.size ∙ other_is.size) in
+    let long : length one_is.body ≡ length other_is.body = (number_once 4 (length one_is.body) (length other_is.body) [] [] (omega (arith, one_small)) (omega (arith, other_small)) sizes).0 in
     let bodies : one_is.body ≡ other_is.body = sym one_is.stands ∙ ap (λ (n : ℕ). slice log (at + 5) n) long ∙ other_is.stands in
     let bytes = sym one_is.means.bytes ∙ bodies ∙ other_is.means.bytes in
     (transactions_once pages one other few one_is.means.each other_is.means.each bytes, one_is.behind ∙ ap (λ (n : ℕ). at + 5 + n) long ∙ sym other_is.behind)

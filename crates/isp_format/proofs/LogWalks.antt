@@ -1,29 +1,12 @@
 -- The walk along the log from gate to gate: what of an image it reads, what one more batch makes of it, and that it is one.
 use Rattle.std.proofs.Common.{◌≡◌, ◌≢◌, ℕ, zero, suc, ◌+◌, ◌-◌, ◌*◌, ◌<◌, ◌≤◌, List, [], ◌∷◌, ◌++◌, length, refl, sym, ◌∙◌, ap, subst, arith}
-use Rattle.byteorder.specs.Endian.{big_number}
 use Rattle.isp_disk.specs.Moments.{Image, slice}
 use Rattle.isp_format.specs.Log.{IsBatch, IsBody, IsLog, Transaction, log_bytes}
-use Rattle.isp_format.specs.Numbers.{number_at}
+use Rattle.isp_format.proofs.Slices.{slice_moved}
 
 -- images that are the same at so many places from one on
 abbrev pub SameOn : Image → Image → ℕ → ℕ → Type 0
 SameOn one other at size = (k : ℕ) → k < size → one (at + k) ≡ other (at + k)
-
-rest_same : (one other : Image) (at size : ℕ) → SameOn one other at (suc size) → SameOn one other (suc at) size
-rest_same one other at size same k below =
-    let up : suc at + k ≡ at + suc k = omega arith in
-    ap one up ∙ same (suc k) (omega (arith, below)) ∙ ap other (sym up)
-
-pub slice_same : (one other : Image) (at size : ℕ) → SameOn one other at size → slice one at size ≡ slice other at size
-slice_same one other at zero same = refl
-slice_same one other at (suc size) same =
-    let start : at ≡ at + 0 = omega arith in
-    let first : one at ≡ other at = ap one start ∙ same 0 (omega arith) ∙ ap other (sym start) in
-    λ i. first i ∷ slice_same one other (suc at) size (rest_same one other at size same) i
-
-pub number_same : (one other : Image) (at size : ℕ) → SameOn one other at size → number_at size one at ≡ number_at size other at
-unfolding number_at
-number_same one other at size same = ap (big_number size) (slice_same one other at size same)
 
 -- the same on a part of the places
 pub part_same : (one other : Image) (at size inner inner_size : ℕ) → SameOn one other at size → at ≤ inner → inner + inner_size ≤ at + size → SameOn one other inner inner_size
@@ -52,8 +35,8 @@ batch_same pages one other at batch next is same =
     record {
       body = is.body;
       gate = sym (place_same one other at (next - at) at same (omega arith) (omega (arith, is.behind))) ∙ is.gate;
-      size = sym (number_same one other (at + 1) 4 (part_same one other at (next - at) (at + 1) 4 same (omega arith) (omega (arith, is.behind)))) ∙ is.size;
-      stands = sym (slice_same one other (at + 5) (length is.body) (part_same one other at (next - at) (at + 5) (length is.body) same (omega arith) (omega (arith, is.behind)))) ∙ is.stands;
+      size = sym (slice_moved one other (at + 1) (at + 1) 4 (part_same one other at (next - at) (at + 1) 4 same (omega arith) (omega (arith, is.behind)))) ∙ is.size;
+      stands = sym (slice_moved one other (at + 5) (at + 5) (length is.body) (part_same one other at (next - at) (at + 5) (length is.body) same (omega arith) (omega (arith, is.behind)))) ∙ is.stands;
       behind = is.behind;
       inside = is.inside;
       means = is.means;

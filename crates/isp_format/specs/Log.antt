@@ -3,7 +3,7 @@
 use Rattle.std.specs.Prelude.{◌≡◌, ◌≢◌, ℕ, ◌+◌, ◌<◌, ◌≤◌, List, [], ◌∷◌, ◌++◌, All, length}
 use Rattle.std.specs.List.{flat_map}
 use Rattle.isp_disk.specs.Moments.{Image, slice}
-use Rattle.isp_format.specs.Numbers.{bytes_of, number_at}
+use Rattle.isp_format.specs.Numbers.{bytes_of}
 use Rattle.isp_format.specs.Ranges.{IsRange, Range}
 
 -- where the log begins
@@ -43,7 +43,7 @@ pub record IsBody (pages : ℕ) (transactions : List Transaction) (body : List �
 pub record IsBatch (pages : ℕ) (log : Image) (at : ℕ) (transactions : List Transaction) (next : ℕ) : Type 0 where
   pub body : List ℕ
   pub gate : log at ≡ 1
-  pub size : number_at 4 log (at + 1) ≡ length body
+  pub size : slice log (at + 1) 4 ≡ bytes_of 4 (length body)
   pub stands : slice log (at + 5) (length body) ≡ body
   pub behind : next ≡ at + 5 + length body
   pub inside : next < log_bytes

@@ -4,7 +4,7 @@ use Rattle.byteorder.specs.Endian.{big_bytes, big_number}
 use Rattle.isp_disk.specs.Moments.{Image, slice}
 
 -- the number in so many bytes from a place on
-unfoldable pub number_at : ℕ → Image → ℕ → ℕ
+abbrev pub number_at : ℕ → Image → ℕ → ℕ
 number_at size image at = big_number size (slice image at size)
 
 -- the bytes of a number

@@ -1,19 +1,20 @@
 -- What the two phases of an append and the one of a reset leave of the log, as statements on bytes.
 use Rattle.std.proofs.Common.{◌≡◌, ◌≢◌, ◌⊎◌, inl, inr, ⊎_elim, ◌==◌, Bool, true, false, ℕ, zero, suc, ◌+◌, ◌-◌, ◌<◌, ◌≤◌, List, [], ◌∷◌, ◌++◌, length, refl, sym, ◌∙◌, ap, subst, arith}
 use Rattle.std.proofs.lemmas.Bool.Decides.{nat_tests}
-use Rattle.byteorder.specs.Endian.{big_number}
 use Rattle.isp_disk.specs.Moments.{Image, Region, Agree, Within, in_range, slice}
 use Rattle.isp_disk.proofs.Moments.{agree_wider, agree_on}
 use Rattle.isp_format.specs.Log.{IsBatch, IsBody, IsLog, Transaction, log_bytes, log_of, log_place}
-use Rattle.isp_format.specs.Numbers.{number_at}
-use Rattle.isp_format.proofs.LogWalks.{SameOn, log_inside, log_same, log_forward, one_more, closed, walked, walk_same, walk_ends, number_same, slice_same}
-use Rattle.isp_format.proofs.Offsets.{out_before, out_behind, range_within}
+use Rattle.isp_format.specs.Numbers.{bytes_of}
+use Rattle.isp_format.proofs.LogWalks.{SameOn, log_inside, log_same, log_forward, one_more, closed, walked, walk_same, walk_ends}
+use Rattle.isp_format.proofs.Offsets.{range_within}
+use Rattle.isp_format.proofs.Places.{above, below as before_start}
+use Rattle.isp_format.proofs.Slices.{slice_moved}
 use Rattle.isp_redo.specs.Changes.{HasLogOf, in_log}
 
 -- the log before a range that was written is the same
 before_range : (old left : Image) (at size end : ℕ) → Agree (in_range (log_place + at) size) old left → end ≤ at → SameOn (log_of old) (log_of left) 0 end
 before_range old left at size end agree below k inside =
-    agree (log_place + (0 + k)) (out_before (log_place + at) size (log_place + (0 + k)) (omega (arith, below, inside)))
+    agree (log_place + (0 + k)) (before_start (log_place + at) size (log_place + (0 + k)) (omega (arith, below, inside)))
 
 -- what was written lies in the log
 pub within_log : (at size : ℕ) → at + size ≤ log_bytes → Within (in_range (log_place + at) size) in_log
@@ -37,25 +38,21 @@ behind_has pages old left batches batches_now end size end_now is inside agree =
     }
 
 -- a slice of the log by itself is one of the image
-log_slice : (image : Image) (at n : ℕ) → slice (log_of image) at n ≡ slice image (log_place + at) n
+pub log_slice : (image : Image) (at n : ℕ) → slice (log_of image) at n ≡ slice image (log_place + at) n
 log_slice image at zero = refl
 log_slice image at (suc n) =
     let up : log_place + suc at ≡ suc (log_place + at) = omega arith in
     λ i. image (log_place + at) ∷ (log_slice image (suc at) n ∙ ap (λ (place : ℕ). slice image place n) up) i
 
-log_number : (image : Image) (at n : ℕ) → number_at n (log_of image) at ≡ number_at n image (log_place + at)
-unfolding number_at
-log_number image at n = ap (big_number n) (log_slice image at n)
-
 -- what stands behind a byte that was written is the same
 behind_byte : (old left : Image) (at place size : ℕ) → Agree (in_range at 1) old left → at < place → SameOn old left place size
-behind_byte old left at place size agree behind k inside = agree (place + k) (out_behind at 1 (place + k) (omega (arith, behind)))
+behind_byte old left at place size agree behind k inside = agree (place + k) (above at 1 (place + k) (omega (arith, behind)))
 
 -- What the first phase leaves: behind the closed gate at the end of the log stand the length of a body, the body and a
 -- closed gate.
 pub record IsLaid (old mid : Image) (end : ℕ) (body : List ℕ) : Type 0 where
   pub others : Agree (in_range (log_place + end + 1) (length body + 5)) old mid
-  pub size : number_at 4 mid (log_place + end + 1) ≡ length body
+  pub size : slice mid (log_place + end + 1) 4 ≡ bytes_of 4 (length body)
   pub stands : slice mid (log_place + end + 5) (length body) ≡ body
   pub gate : mid (log_place + end + 5 + length body) ≡ 0
 
@@ -70,12 +67,12 @@ batch_opened pages old mid left end batch body inside means is agree opened =
       body = body;
       gate = opened;
       size =
-        log_number left (end + 1) 4 ∙ ap (number_at 4 left) size_place
-        ∙ sym (number_same mid left (log_place + end + 1) 4 (behind_byte mid left (log_place + end) (log_place + end + 1) 4 agree (omega arith)))
+        log_slice left (end + 1) 4 ∙ ap (λ (place : ℕ). slice left place 4) size_place
+        ∙ sym (slice_moved mid left (log_place + end + 1) (log_place + end + 1) 4 (behind_byte mid left (log_place + end) (log_place + end + 1) 4 agree (omega arith)))
         ∙ is.size;
       stands =
         log_slice left (end + 5) (length body) ∙ ap (λ (place : ℕ). slice left place (length body)) body_place
-        ∙ sym (slice_same mid left (log_place + end + 5) (length body) (behind_byte mid left (log_place + end) (log_place + end + 5) (length body) agree (omega arith)))
+        ∙ sym (slice_moved mid left (log_place + end + 5) (log_place + end + 5) (length body) (behind_byte mid left (log_place + end) (log_place + end + 5) (length body) agree (omega arith)))
         ∙ is.stands;
       behind = refl;
       inside = inside;
@@ -89,7 +86,7 @@ pub opened_is : (pages : ℕ) (old mid left : Image) (batches : List (List Trans
 opened_is pages old mid left batches end batch body log inside means is agree opened =
     let next = end + 5 + length body in
     let next_place : log_place + next ≡ log_place + end + 5 + length body = omega arith in
-    let shut : left (log_place + next) ≡ 0 = ap left next_place ∙ sym (agree (log_place + end + 5 + length body) (out_behind (log_place + end) 1 (log_place + end + 5 + length body) (omega arith))) ∙ is.gate in
+    let shut : left (log_place + next) ≡ 0 = ap left next_place ∙ sym (agree (log_place + end + 5 + length body) (above (log_place + end) 1 (log_place + end + 5 + length body) (omega arith))) ∙ is.gate in
     one_more pages (log_of mid) (log_of left) batches end batch next (kept_behind pages old mid batches end (length body + 5) log is.others)
     (before_range mid left end 1 end agree (omega arith))
     (batch_opened pages old mid left end batch body inside means is agree opened)

@@ -3,7 +3,7 @@
 ghost use Rattle.std.specs.Prelude.{◌≡◌, ◌+◌, ◌≤◌, [], length, IsSome, OnOk};
 ghost use Rattle.isp_disk.specs.Moments.{Agree, During, Elapses, Quiet, Touches, in_range, put, slice};
 ghost use Rattle.isp_disk.specs.Outside.{HasCause};
-ghost use Rattle.isp_format.specs.Numbers.{bytes_of, number_at};
+ghost use Rattle.isp_format.specs.Numbers.{bytes_of};
 ghost use Rattle.isp_redo.specs.Changes.{ChangesOnly};
 
 use isp_disk::{Failed, World};
@@ -30,7 +30,7 @@ pub fn lay_body<W: World>(world: &mut W, at: u64, body: &[u8]) -> Result<(), Fai
     ensures leaves { ChangesOnly W.clock W.left_since W.image W.printed world.old world.new (in_range (at + 1) (length body.now + 5)) }
     ensures others { Agree (in_range (at + 1) (length body.now + 5)) (W.image world.old) (W.image world.new) }
     ensures quiet { OnOk result (Quiet (W.pending world.new)) }
-    ensures size { IsSome (W.printed world.old) → OnOk result (number_at 4 (W.image world.new) (at + 1) ≡ length body.now) }
+    ensures size { IsSome (W.printed world.old) → OnOk result (slice (W.image world.new) (at + 1) 4 ≡ bytes_of 4 (length body.now)) }
     ensures body { IsSome (W.printed world.old) → OnOk result (slice (W.image world.new) (at + 5) (length body.now) ≡ body.now) }
     ensures gate { IsSome (W.printed world.old) → OnOk result (W.image world.new (at + 5 + length body.now) ≡ 0) }
     ensures printed { W.printed world.new ≡ W.printed world.old }

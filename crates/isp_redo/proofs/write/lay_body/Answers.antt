@@ -3,7 +3,7 @@ use Rattle.isp_disk.specs.Moments.{Image, in_range, put, slice}
 use Rattle.isp_disk.proofs.Moments.{begins, writes, keeps}
 use Rattle.isp_format.specs.Numbers.{bytes_of}
 use Rattle.isp_format.proofs.Offsets.{range_within}
-use Rattle.isp_redo.proofs.Laying.{laid_body, laid_gate, laid_size, number_laid}
+use Rattle.isp_redo.proofs.Laying.{laid_body, laid_gate, laid_size}
 use Rattle.isp_redo.proofs.write.lay_body.Goals as goal
 
 pub returns-in_err-write-clause-leaves : goal.returns-in_err-write-clause-leaves
@@ -69,6 +69,4 @@ returns-clause-size g c tells =
     let tells_sized : IsSome (w.printed c.write_size.new.world) = subst (λ (p : Option (List ℕ)). IsSome p) (sym c.in_ok-write_size.ensures.printed) tells in
     let tells_written : IsSome (w.printed c.write.new.self) = subst (λ (p : Option (List ℕ)). IsSome p) (sym c.in_ok-write.ensures.printed) tells_sized in
     let stands = c.in_ok-sync.ensures.disk.same ∙ c.in_ok-write-2.ensures.written tells_written ∙ ap (λ (i : Image). put i (c.args.at + 5 + length c.args.body.now) (0 ∷ [])) (c.in_ok-write.ensures.written tells_sized ∙ ap (λ (i : Image). put i (c.args.at + 5) c.args.body.now) sized) in
-    let bytes = ap (λ (i : Image). slice i (c.args.at + 1) 4) stands ∙ laid_size (w.image old) c.args.at (bytes_of 4 (length c.args.body.now)) c.args.body.now refl in
-    let inside = c.requires.inside in
-    number_laid (w.image c.sync.new.self) (c.args.at + 1) (length c.args.body.now) (omega (arith, inside)) bytes
+    ap (λ (i : Image). slice i (c.args.at + 1) 4) stands ∙ laid_size (w.image old) c.args.at (bytes_of 4 (length c.args.body.now)) c.args.body.now refl
