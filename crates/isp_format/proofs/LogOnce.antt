@@ -12,7 +12,7 @@ use Rattle.isp_format.specs.Numbers.{bytes_of, number_at}
 use Rattle.isp_format.specs.Ranges.{IsRange, Range, page_bytes}
 
 -- lists of one length at the front of the same list
-cut : (one other more others : List ℕ) → length one ≡ length other → one ++ more ≡ other ++ others → (one ≡ other) × (more ≡ others)
+pub cut : (one other more others : List ℕ) → length one ≡ length other → one ++ more ≡ other ++ others → (one ≡ other) × (more ≡ others)
 cut one other more others long same = (
     sym (take-append_seam one more) ∙ ap (take (length one)) same ∙ ap (λ (n : ℕ). take n (other ++ others)) long ∙ take-append_seam other others,
     sym (drop-append_seam one more) ∙ ap (drop (length one)) same ∙ ap (λ (n : ℕ). drop n (other ++ others)) long ∙ drop-append_seam other others,

@@ -1,2 +1,4 @@
+pub mod Chained
 pub mod Laying
+pub mod Positions
 pub mod Steps

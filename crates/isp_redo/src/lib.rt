@@ -3,7 +3,9 @@
 //! it.
 #![tactic(auto)]
 
+mod fields;
 mod log;
+mod scan;
 mod write;
 
 pub use log::Log;
