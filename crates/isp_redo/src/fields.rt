@@ -78,6 +78,7 @@ pub fn read_size<W: World>(world: &mut W, at: u64) -> Result<u32, Failed>
     requires quiet { Quiet (W.pending world.old) }
     requires place { at ≤ log_bytes }
     ensures size { IsSome (W.printed world.old) → IfOk result (λ size. slice (log_of (W.image world.old)) at 4 ≡ bytes_of 4 size) }
+    ensures few { IfOk result (λ size. size < 4294967296) }
     ensures reads { OnlyReads W.clock W.left_since W.image W.pending W.printed W.print_faults world.old world.new }
     ensures cause { HasCause (W.disk_faults world.old) (W.disk_faults world.new) result }
 {
@@ -106,6 +107,7 @@ pub fn read_header<W: World>(world: &mut W, at: u64) -> Result<Header, Failed>
     requires place { at ≤ log_bytes }
     ensures header { IsSome (W.printed world.old) → IfOk result (λ header. slice (log_of (W.image world.old)) at 8
         ≡ bytes_of 4 header.page ++ (bytes_of 2 header.at ++ bytes_of 2 header.len)) }
+    ensures few { IfOk result (λ header. (header.page < 4294967296) × (header.at < 65536) × (header.len < 65536)) }
     ensures reads { OnlyReads W.clock W.left_since W.image W.pending W.printed W.print_faults world.old world.new }
     ensures cause { HasCause (W.disk_faults world.old) (W.disk_faults world.new) result }
 {

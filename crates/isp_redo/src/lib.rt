@@ -4,8 +4,14 @@
 #![tactic(auto)]
 
 mod fields;
+mod laws;
 mod log;
+mod ranges;
 mod scan;
+#[cfg(test)]
+mod tests;
 mod write;
 
+pub use laws::{law_all_ranges_lie_ahead, law_one_log};
 pub use log::Log;
+pub use ranges::{LogRange, read_range};

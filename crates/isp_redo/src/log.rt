@@ -1,16 +1,17 @@
 //! The log and where it ends.
 
-ghost use Rattle.std.specs.Prelude.{◌≡◌, ◌+◌, ◌<◌, ◌++◌, [], ◌∷◌, ℕ, List, length, nat_lt, IsSome, OnErr, OnOk};
+ghost use Rattle.std.specs.Prelude.{◌≡◌, ◌+◌, ◌<◌, ◌≤◌, ◌++◌, [], ◌∷◌, ℕ, List, length, nat_lt, IfOk, IfSome, IsSome, OnErr, OnOk};
+ghost use Rattle.std.specs.Option.{option_map};
 ghost use Rattle.isp_disk.specs.Moments.{Agree, LeavesOnly, Quiet};
 ghost use Rattle.isp_disk.specs.Outside.{HasCause};
 ghost use Rattle.isp_format.specs.Log.{IsBody, IsLog, Transaction, log_bytes, log_of};
 ghost use Rattle.isp_redo.specs.Changes.{HasLogOf, in_log};
+ghost use Rattle.isp_redo.specs.Reading.{FindsEnd, OnlyReads};
 
+use crate::fields::LOG_PLACE;
+use crate::scan::scan_end;
 use crate::write::{lay_body, set_gate};
 use isp_disk::{Failed, World};
-
-// Where the log begins on the disk, in bytes.
-const LOG_PLACE: u64 = 266_240;
 
 // The greatest place at which the gate behind a batch may stand, less the five bytes before the batch's body.
 const MOST_BODY: u64 = 1_048_570;
@@ -22,6 +23,24 @@ pub struct Log {
 }
 
 impl Log {
+    /// The log of a file with so many pages. None exactly where it can't be read to its end: where a batch whose gate is open
+    /// does not lie in the log together with the gate behind it, or its body is not one or more mini-transactions whose
+    /// ranges lie in pages below `pages`. It reads piece by piece, and writes nothing.
+    pub fn scan<W: World>(world: &mut W, pages: u32) -> Result<Option<Log>, Failed>
+        requires quiet { Quiet (W.pending world.old) }
+        requires few { pages ≤ 65536 }
+
+        ensures found { IsSome (W.printed world.old) → IfOk result (λ log. FindsEnd pages (log_of (W.image world.old)) (option_map (λ l. l.end) log)) }
+        ensures inside { IfOk result (λ log. IfSome log (λ l. l.end < log_bytes)) }
+        ensures reads { OnlyReads W.clock W.left_since W.image W.pending W.printed W.print_faults world.old world.new }
+        ensures cause { HasCause (W.disk_faults world.old) (W.disk_faults world.new) result }
+    {
+        match scan_end(world, pages)? {
+            Some(end) => Ok(Some(Log { end })),
+            None => Ok(None),
+        }
+    }
+
     /// Whether a batch with a body of so many bytes, and the gate behind it, lie in the log.
     pub fn fits(&self, len: usize) -> bool
         ensures { result ≡ nat_lt (self.now.end + 5 + len) log_bytes }
