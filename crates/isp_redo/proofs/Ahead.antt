@@ -1,5 +1,5 @@
 -- What lies ahead of a place of the log, step by step.
-use Rattle.std.proofs.Common.{◌≡◌, ◌≢◌, ℕ, zero, suc, ◌+◌, ◌-◌, ◌^◌, ◌<◌, ◌≤◌, List, [], ◌∷◌, ◌++◌, length, take, refl, sym, ◌∙◌, ap, subst, arith}
+use Rattle.std.proofs.Common.{◌≡◌, ◌≢◌, ℕ, ◌+◌, ◌-◌, ◌^◌, ◌<◌, ◌≤◌, List, [], ◌∷◌, ◌++◌, length, refl, sym, ◌∙◌, ap, subst, arith}
 use Rattle.std.specs.List.{flat_map}
 use Rattle.std.proofs.lemmas.List.{append_assoc}
 use Rattle.isp_disk.specs.Moments.{Image, slice}
@@ -10,7 +10,7 @@ use Rattle.isp_format.specs.Ranges.{Range}
 use Rattle.isp_redo.specs.Places.{IsAt}
 use Rattle.isp_redo.specs.Reading.{AreRangesAt, AreTransactionsAt, IsRangeAt, IsTransactionAt}
 use Rattle.isp_redo.specs.declared.ranges.Place.{Place}
-use Rattle.isp_redo.proofs.Positions.{batch_read, count_is, header_is, range_forward, ranges_forward, size_is, transaction_forward, transactions_forward}
+use Rattle.isp_redo.proofs.Positions.{batch_read, count_is, ranges_forward, size_is, transaction_forward, transactions_forward}
 
 -- all of the log lies ahead of its beginning
 pub begins_at : (pages : ℕ) (log : Image) (batches : List (List Transaction)) (end : ℕ) → IsLog pages log 0 batches end → IsAt pages log (record { at = 0; left = 0; end = 0 }) (ranges_of batches)

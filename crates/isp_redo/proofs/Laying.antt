@@ -1,5 +1,5 @@
 -- What three writes behind a gate leave: a length, a body, and the next gate.
-use Rattle.std.proofs.Common.{◌≡◌, ℕ, ◌+◌, ◌<◌, ◌≤◌, List, [], ◌∷◌, length, ◌∙◌, arith}
+use Rattle.std.proofs.Common.{◌≡◌, ℕ, ◌+◌, List, [], ◌∷◌, length, ◌∙◌, arith}
 use Rattle.isp_disk.specs.Moments.{Image, put, slice}
 use Rattle.isp_format.proofs.Offsets.{put_first}
 use Rattle.isp_format.proofs.Slices.{put_below, slice_moved, slice_put}
@@ -19,6 +19,6 @@ module _ (image : Image) (at : ℕ) (size body : List ℕ) (long : length size �
   pub laid_size : slice laid (at + 1) (length size) ≡ size
   laid_size =
       slice_moved laid (put image (at + 1) size) (at + 1) (at + 1) (length size) (λ k below.
-        put_below (put (put image (at + 1) size) (at + 5) body) (at + 5 + length body) (0 ∷ []) (at + 1 + k) (omega (arith, below, long))
-        ∙ put_below (put image (at + 1) size) (at + 5) body (at + 1 + k) (omega (arith, below, long)))
+      put_below (put (put image (at + 1) size) (at + 5) body) (at + 5 + length body) (0 ∷ []) (at + 1 + k) (omega (arith, below, long))
+      ∙ put_below (put image (at + 1) size) (at + 5) body (at + 1 + k) (omega (arith, below, long)))
       ∙ slice_put image (at + 1) size

@@ -1,5 +1,5 @@
 -- Reading the log from a place on: what is there is one, and is what the log's own definitions say.
-use Rattle.std.proofs.Common.{◌≡◌, ◌≢◌, Bool, true, false, ◌&&◌, nat_le, nat_lt, ℕ, zero, suc, ◌+◌, ◌-◌, ◌^◌, ◌<◌, ◌≤◌, List, [], ◌∷◌, ◌++◌, length, refl, sym, ◌∙◌, ap, subst, arith}
+use Rattle.std.proofs.Common.{◌≡◌, true, ◌&&◌, nat_le, nat_lt, ℕ, zero, suc, ◌+◌, ◌-◌, ◌^◌, ◌<◌, ◌≤◌, List, [], ◌∷◌, ◌++◌, length, refl, sym, ◌∙◌, ap, subst, arith}
 use Rattle.std.proofs.lemmas.Bool.Decides.{nat_tests}
 use Rattle.std.specs.Prelude.{All}
 use Rattle.std.specs.List.{flat_map}
@@ -7,7 +7,7 @@ use Rattle.std.proofs.lemmas.List.{append_assoc, length-append}
 use Rattle.std.proofs.lemmas.List.Elements.{All-cons, All-nil}
 use Rattle.byteorder.specs.Numbers.{length-bytes_high_first}
 use Rattle.isp_disk.specs.Moments.{Image, slice}
-use Rattle.isp_format.specs.Log.{IsBatch, IsBody, IsLog, IsTransaction, Transaction, log_bytes, range_bytes, transaction_bytes}
+use Rattle.isp_format.specs.Log.{IsBatch, IsLog, IsTransaction, Transaction, log_bytes, range_bytes, transaction_bytes}
 use Rattle.isp_format.specs.Numbers.{bytes_of}
 use Rattle.isp_format.specs.Ranges.{IsRange, Range}
 use Rattle.isp_format.proofs.LogOnce.{batch_once, cut, number_once}

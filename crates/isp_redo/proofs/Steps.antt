@@ -1,11 +1,11 @@
 -- What the two phases of an append and the one of a reset leave of the log, as statements on bytes.
-use Rattle.std.proofs.Common.{◌≡◌, ◌≢◌, ◌⊎◌, inl, inr, ⊎_elim, ◌==◌, Bool, true, false, ℕ, zero, suc, ◌+◌, ◌-◌, ◌<◌, ◌≤◌, List, [], ◌∷◌, ◌++◌, length, refl, sym, ◌∙◌, ap, subst, arith}
+use Rattle.std.proofs.Common.{◌≡◌, ◌≢◌, ◌⊎◌, inl, inr, ⊎_elim, ◌==◌, true, false, ℕ, zero, suc, ◌+◌, ◌-◌, ◌<◌, ◌≤◌, List, [], ◌∷◌, ◌++◌, length, refl, sym, ◌∙◌, ap, subst, arith}
 use Rattle.std.proofs.lemmas.Bool.Decides.{nat_tests}
-use Rattle.isp_disk.specs.Moments.{Image, Region, Agree, Within, in_range, slice}
+use Rattle.isp_disk.specs.Moments.{Image, Agree, Within, in_range, slice}
 use Rattle.isp_disk.proofs.Moments.{agree_wider, agree_on}
 use Rattle.isp_format.specs.Log.{IsBatch, IsBody, IsLog, Transaction, log_bytes, log_of, log_place}
 use Rattle.isp_format.specs.Numbers.{bytes_of}
-use Rattle.isp_format.proofs.LogWalks.{SameOn, log_inside, log_same, log_forward, one_more, closed, walked, walk_same, walk_ends}
+use Rattle.isp_format.proofs.LogWalks.{SameOn, log_same, one_more, closed, walked, walk_same, walk_ends}
 use Rattle.isp_format.proofs.Offsets.{range_within}
 use Rattle.isp_format.proofs.Places.{above, below as before_start}
 use Rattle.isp_format.proofs.Slices.{slice_moved}
@@ -67,13 +67,13 @@ batch_opened pages old mid left end batch body inside means is agree opened =
       body = body;
       gate = opened;
       size =
-        log_slice left (end + 1) 4 ∙ ap (λ (place : ℕ). slice left place 4) size_place
-        ∙ sym (slice_moved mid left (log_place + end + 1) (log_place + end + 1) 4 (behind_byte mid left (log_place + end) (log_place + end + 1) 4 agree (omega arith)))
-        ∙ is.size;
+          log_slice left (end + 1) 4 ∙ ap (λ (place : ℕ). slice left place 4) size_place
+          ∙ sym (slice_moved mid left (log_place + end + 1) (log_place + end + 1) 4 (behind_byte mid left (log_place + end) (log_place + end + 1) 4 agree (omega arith)))
+          ∙ is.size;
       stands =
-        log_slice left (end + 5) (length body) ∙ ap (λ (place : ℕ). slice left place (length body)) body_place
-        ∙ sym (slice_moved mid left (log_place + end + 5) (log_place + end + 5) (length body) (behind_byte mid left (log_place + end) (log_place + end + 5) (length body) agree (omega arith)))
-        ∙ is.stands;
+          log_slice left (end + 5) (length body) ∙ ap (λ (place : ℕ). slice left place (length body)) body_place
+          ∙ sym (slice_moved mid left (log_place + end + 5) (log_place + end + 5) (length body) (behind_byte mid left (log_place + end) (log_place + end + 5) (length body) agree (omega arith)))
+          ∙ is.stands;
       behind = refl;
       inside = inside;
       means = means;
@@ -116,8 +116,8 @@ opened_has pages old mid left batches end batch body log inside means is agree =
     record {
       log = ⊎_elim (λ opened. inr (opened_is pages old mid left batches end batch body log inside means is agree opened)) (λ shut. inl (shut_is pages old mid left batches end body log is agree shut)) (is_open (left (log_place + end)));
       others = agree_on in_log old mid left
-        (agree_wider (in_range (log_place + (end + 1)) (length body + 5)) in_log old mid (within_log (end + 1) (length body + 5) (omega (arith, inside))) others)
-        (agree_wider (in_range (log_place + end) 1) in_log mid left (within_log end 1 (omega (arith, inside))) agree);
+          (agree_wider (in_range (log_place + (end + 1)) (length body + 5)) in_log old mid (within_log (end + 1) (length body + 5) (omega (arith, inside))) others)
+          (agree_wider (in_range (log_place + end) 1) in_log mid left (within_log end 1 (omega (arith, inside))) agree);
     }
 
 -- ---- reset
@@ -142,18 +142,18 @@ reset_has pages old left batches end log some agree =
     let opened : old log_place ≡ 1 = begins_open pages (log_of old) batches end log some in
     record {
       log = ⊎_elim
-        (λ (one : left log_place ≡ 1). inl (log_same pages (log_of old) (log_of left) 0 batches end log (λ k below. still_same old left agree (opened ∙ sym one) (log_place + (0 + k)))))
-        (λ shut. inr ((λ one. shut one), refl))
-        (is_open (left log_place));
+          (λ (one : left log_place ≡ 1). inl (log_same pages (log_of old) (log_of left) 0 batches end log (λ k below. still_same old left agree (opened ∙ sym one) (log_place + (0 + k)))))
+          (λ shut. inr ((λ one. shut one), refl))
+          (is_open (left log_place));
       others = agree_wider (in_range log_place 1) in_log old left (range_within log_place log_bytes log_place 1 (omega arith) (omega arith)) agree;
     }
 
 -- an image that is the same has the same log
 pub same_has : (pages : ℕ) (old left : Image) (batches batches_now : List (List Transaction)) (end end_now : ℕ) → IsLog pages (log_of old) 0 batches end → ((place : ℕ) → old place ≡ left place) → HasLogOf pages old batches end batches_now end_now left
 same_has pages old left batches batches_now end end_now log same = record {
-    log = inl (log_same pages (log_of old) (log_of left) 0 batches end log (λ k below. same (log_place + (0 + k))));
-    others = λ place out. same place;
-  }
+  log = inl (log_same pages (log_of old) (log_of left) 0 batches end log (λ k below. same (log_place + (0 + k))));
+  others = λ place out. same place;
+}
 
 -- a log that ends at its beginning is empty
 pub empty_is : (pages : ℕ) (log : Image) (batches : List (List Transaction)) (end : ℕ) → IsLog pages log 0 batches end → end ≡ 0 → IsLog pages log 0 [] 0

@@ -1,5 +1,5 @@
 -- What a stop within a change of the log leaves of it.
-use Rattle.std.specs.Prelude.{◌≡◌, ◌⊎◌, ℕ, List, [], ◌∷◌, ◌++◌, Option}
+use Rattle.std.specs.Prelude.{◌≡◌, ◌⊎◌, ℕ, List, Option}
 use Rattle.isp_disk.specs.Moments.{Image, Region, Agree, LeavesOnly, in_range}
 use Rattle.isp_format.specs.Log.{IsLog, Transaction, log_bytes, log_of, log_place}
 

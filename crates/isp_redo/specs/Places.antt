@@ -1,6 +1,6 @@
 -- A place between the ranges of the log, as the ranges that lie ahead of it. It is told as one number that callers don't
 -- look into.
-use Rattle.std.specs.Prelude.{◌≡◌, ℕ, ◌+◌, ◌*◌, ◌/◌, ◌%◌, ◌<◌, ◌≤◌, List, [], ◌∷◌, ◌++◌, length, take, Option, Some, None}
+use Rattle.std.specs.Prelude.{◌≡◌, ℕ, ◌+◌, ◌/◌, ◌%◌, ◌<◌, ◌≤◌, List, [], ◌∷◌, ◌++◌, length, take, Option, Some, None}
 use Rattle.std.specs.List.{flat_map}
 use Rattle.isp_disk.specs.Moments.{Image}
 use Rattle.isp_format.specs.Contents.{ranges_of}

@@ -60,7 +60,7 @@ impl Log {
         ensures moments { IsSome (W.printed world.old) → (pages : ℕ) (batches : List (List Transaction)) (batch : List Transaction)
             → IsLog pages (log_of (W.image world.old)) 0 batches self.old.end → IsBody pages batch body.now
             → LeavesOnly W.clock W.left_since world.old world.new (λ left told. HasLogOf pages (W.image world.old) batches self.old.end
-                (batches ++ batch ∷ []) (self.old.end + 5 + length body.now) left × (told ≡ W.printed world.old)) }
+            (batches ++ batch ∷ []) (self.old.end + 5 + length body.now) left × (told ≡ W.printed world.old)) }
         ensures appended { IsSome (W.printed world.old) → (pages : ℕ) (batches : List (List Transaction)) (batch : List Transaction)
             → IsLog pages (log_of (W.image world.old)) 0 batches self.old.end → IsBody pages batch body.now
             → OnOk result (IsLog pages (log_of (W.image world.new)) 0 (batches ++ batch ∷ []) self.new.end) }
@@ -88,7 +88,7 @@ impl Log {
         ensures moments { IsSome (W.printed world.old) → (pages : ℕ) (batches : List (List Transaction))
             → IsLog pages (log_of (W.image world.old)) 0 batches self.old.end
             → LeavesOnly W.clock W.left_since world.old world.new (λ left told. HasLogOf pages (W.image world.old) batches self.old.end
-                [] 0 left × (told ≡ W.printed world.old)) }
+            [] 0 left × (told ≡ W.printed world.old)) }
         ensures emptied { IsSome (W.printed world.old) → (pages : ℕ) (batches : List (List Transaction))
             → IsLog pages (log_of (W.image world.old)) 0 batches self.old.end
             → OnOk result (IsLog pages (log_of (W.image world.new)) 0 [] 0) }

@@ -121,7 +121,12 @@ fn lies_in_page(header: Header) -> bool
 }
 
 // Fills the front of a page with so many bytes of the log.
-fn fill<W: World>(world: &mut W, at: u64, len: u16, into: &mut [u8; PAGE_BYTES]) -> Result<(), Failed>
+fn fill<W: World>(
+    world: &mut W,
+    at: u64,
+    len: u16,
+    into: &mut [u8; PAGE_BYTES],
+) -> Result<(), Failed>
     requires quiet { Quiet (W.pending world.old) }
     requires places { (at ≤ log_bytes) × (len ≤ 4096) }
     ensures bytes { IsSome (W.printed world.old) → OnOk result (take len into.new ≡ slice (log_of (W.image world.old)) at len) }

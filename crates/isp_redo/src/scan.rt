@@ -25,7 +25,9 @@ pub enum Step {
 fn is_range(header: Header, pages: u32) -> bool
     ensures { result ≡ (nat_lt header.page pages && nat_lt 0 header.len && nat_le (header.at + header.len) 4096) }
 {
-    header.page < pages && header.len > 0 && u64::from(header.at) + u64::from(header.len) <= PAGE_BYTES
+    header.page < pages
+        && header.len > 0
+        && u64::from(header.at) + u64::from(header.len) <= PAGE_BYTES
 }
 
 // The place behind the range at a place, if one is there that ends by the end.
@@ -50,7 +52,12 @@ fn range_end<W: World>(world: &mut W, at: u64, end: u64, pages: u32) -> Result<O
 }
 
 // The place behind the mini-transaction at a place, if one is there that ends by the end.
-fn transaction_end<W: World>(world: &mut W, at: u64, end: u64, pages: u32) -> Result<Option<u64>, Failed>
+fn transaction_end<W: World>(
+    world: &mut W,
+    at: u64,
+    end: u64,
+    pages: u32,
+) -> Result<Option<u64>, Failed>
     requires quiet { Quiet (W.pending world.old) }
     requires few { pages ≤ 65536 }
     requires places { (at ≤ end) × (end < log_bytes) }

@@ -2,24 +2,28 @@
 
 use super::*;
 use isp_disk::{MemWorld, World};
-use std::alloc::AllocError;
+use std::alloc::{AllocError, Global};
 use std::test::Fail;
 
 const LOG_START: usize = 266_240;
+
 const DISK_BYTES: u64 = 1_314_816;
+
+// Enough for the front of the log.
+const SMALL_BYTES: u64 = 266_304;
 
 // What a log tells: page, place and first byte of each range, or None where it can't be read to its end.
 type Told = Option<Vec<(u32, u16, u8)>>;
 
-// A disk with these bytes at the beginning of its log.
-fn disk(alloc: Global, log: &[u8]) -> Result<MemWorld, AllocError> {
+// A disk of so many bytes with these at the beginning of its log.
+fn disk(alloc: Global, log: &[u8], size: u64) -> Result<MemWorld, AllocError> {
     let mut bytes = Vec::new(alloc);
     bytes.resize(LOG_START, 0u8)?;
     bytes.extend_from_slice(log)?;
-    if bytes.len() as u64 > DISK_BYTES {
+    if bytes.len() as u64 > size {
         return Err(AllocError);
     }
-    MemWorld::new(alloc, DISK_BYTES, &bytes, &[], 4_000, 4_000_000)
+    MemWorld::new(alloc, size, &bytes, &[], 4_000, 4_000_000)
 }
 
 // A body of one mini-transaction: these ranges, each of bytes of one value.
@@ -88,14 +92,29 @@ type Row = (&'static [u8], Option<&'static [(u32, u16, u8)]>);
 const ROWS: [Row; 14] = [
     (&[], Some(&[])),
     // A gate that is not 1 is closed, whatever stands behind it.
-    (&[0, 0, 0, 0, 11, 0, 1, 0, 0, 0, 20, 0, 64, 0, 1, 7], Some(&[])),
-    (&[9, 0, 0, 0, 11, 0, 1, 0, 0, 0, 20, 0, 64, 0, 1, 7], Some(&[])),
-    (&[1, 0, 0, 0, 11, 0, 1, 0, 0, 0, 20, 0, 64, 0, 1, 7], Some(&[(20, 64, 7)])),
+    (
+        &[0, 0, 0, 0, 11, 0, 1, 0, 0, 0, 20, 0, 64, 0, 1, 7],
+        Some(&[]),
+    ),
+    (
+        &[9, 0, 0, 0, 11, 0, 1, 0, 0, 0, 20, 0, 64, 0, 1, 7],
+        Some(&[]),
+    ),
+    (
+        &[1, 0, 0, 0, 11, 0, 1, 0, 0, 0, 20, 0, 64, 0, 1, 7],
+        Some(&[(20, 64, 7)]),
+    ),
     // Two mini-transactions in one body, the first of them without a range.
-    (&[1, 0, 0, 0, 13, 0, 0, 0, 1, 0, 0, 0, 63, 15, 255, 0, 1, 8], Some(&[(63, 4_095, 8)])),
+    (
+        &[1, 0, 0, 0, 13, 0, 0, 0, 1, 0, 0, 0, 63, 15, 255, 0, 1, 8],
+        Some(&[(63, 4_095, 8)]),
+    ),
     // Two batches.
     (
-        &[1, 0, 0, 0, 11, 0, 1, 0, 0, 0, 20, 0, 64, 0, 1, 7, 1, 0, 0, 0, 11, 0, 1, 0, 0, 0, 21, 0, 0, 0, 1, 6],
+        &[
+            1, 0, 0, 0, 11, 0, 1, 0, 0, 0, 20, 0, 64, 0, 1, 7, 1, 0, 0, 0, 11, 0, 1, 0, 0, 0, 21,
+            0, 0, 0, 1, 6,
+        ],
         Some(&[(20, 64, 7), (21, 0, 6)]),
     ),
     // An empty body.
@@ -106,17 +125,23 @@ const ROWS: [Row; 14] = [
     (&[1, 0, 0, 0, 9, 0, 1, 0, 0, 0, 20, 0, 64, 0], None),
     (&[1, 0, 0, 0, 10, 0, 1, 0, 0, 0, 20, 0, 64, 0, 1, 7], None),
     // A byte behind the last mini-transaction.
-    (&[1, 0, 0, 0, 12, 0, 1, 0, 0, 0, 20, 0, 64, 0, 1, 7, 0], None),
+    (
+        &[1, 0, 0, 0, 12, 0, 1, 0, 0, 0, 20, 0, 64, 0, 1, 7, 0],
+        None,
+    ),
     // A page at the file's end; a range past its page's end.
     (&[1, 0, 0, 0, 11, 0, 1, 0, 0, 0, 64, 0, 64, 0, 1, 7], None),
-    (&[1, 0, 0, 0, 12, 0, 1, 0, 0, 0, 20, 15, 255, 0, 2, 7, 7], None),
+    (
+        &[1, 0, 0, 0, 12, 0, 1, 0, 0, 0, 20, 15, 255, 0, 2, 7, 7],
+        None,
+    ),
 ];
 
 #[test]
 fn logs_and_what_they_tell(rt: HostRuntime) -> Result<(), Fail> {
     let alloc = rt.alloc();
     for (bytes, wanted) in ROWS {
-        let mut world = disk(alloc, bytes)?;
+        let mut world = disk(alloc, bytes, SMALL_BYTES)?;
         let found = told(alloc, &mut world)?;
         assert_eq!(rt; found.is_some(), wanted.is_some());
         if let (Some(found), Some(wanted)) = (&found, wanted) {
@@ -130,7 +155,7 @@ fn logs_and_what_they_tell(rt: HostRuntime) -> Result<(), Fail> {
         &[1, 255, 255, 255, 255, 0, 0],
     ];
     for bytes in none {
-        let mut world = disk(alloc, bytes)?;
+        let mut world = disk(alloc, bytes, SMALL_BYTES)?;
         assert_eq!(rt; start(&mut world), None);
     }
     Ok(())
@@ -139,7 +164,7 @@ fn logs_and_what_they_tell(rt: HostRuntime) -> Result<(), Fail> {
 #[test]
 fn a_stop_leaves_one_batch_or_both(rt: HostRuntime) -> Result<(), Fail> {
     let alloc = rt.alloc();
-    let mut world = disk(alloc, &[])?;
+    let mut world = disk(alloc, &[], SMALL_BYTES)?;
     let mut log = Log { end: 0 };
     let first = body(alloc, &[(20, 64, 1, 7)])?;
     let second = body(alloc, &[(21, 0, 2, 6), (20, 64, 1, 5)])?;
@@ -157,7 +182,7 @@ fn a_stop_leaves_one_batch_or_both(rt: HostRuntime) -> Result<(), Fail> {
         for kept in [0, 1, 1_000] {
             for fill in [0, 1, 9] {
                 let image = world.image_at(alloc, call, kept, fill)?;
-                let mut left = disk(alloc, &image[LOG_START..])?;
+                let mut left = disk(alloc, &image[LOG_START..], SMALL_BYTES)?;
                 let found = told(alloc, &mut left)?;
                 assert!(rt; found.is_some());
                 if let Some(found) = &found {
@@ -178,7 +203,11 @@ fn a_stop_leaves_one_batch_or_both(rt: HostRuntime) -> Result<(), Fail> {
 fn a_closed_gate_is_left_alone(rt: HostRuntime) -> Result<(), Fail> {
     let alloc = rt.alloc();
     // A whole body behind a gate that a stop left as 9: it was never acknowledged.
-    let mut world = disk(alloc, &[9, 0, 0, 0, 11, 0, 1, 0, 0, 0, 20, 0, 64, 0, 1, 7])?;
+    let mut world = disk(
+        alloc,
+        &[9, 0, 0, 0, 11, 0, 1, 0, 0, 0, 20, 0, 64, 0, 1, 7],
+        SMALL_BYTES,
+    )?;
     let mut log = Log { end: 0 };
     if world.sync() == Ok(()) {
         let before = world.calls();
@@ -218,7 +247,7 @@ fn the_edge_of_the_log(rt: HostRuntime) -> Result<(), Fail> {
     }
     let largest = body(alloc, &ranges)?;
     assert_eq!(rt; largest.len(), 196_994);
-    let mut world = disk(alloc, &[])?;
+    let mut world = disk(alloc, &[], DISK_BYTES)?;
     let mut log = Log { end: 0 };
     for _batch in 0..2 {
         assert!(rt; append(&mut world, &mut log, &largest));

@@ -1,4 +1,4 @@
-use Rattle.std.proofs.Common.{rules, ◌≡◌, ℕ, List, sym}
+use Rattle.std.proofs.Common.{sym}
 use Rattle.std.proofs.lemmas.Nat.{be_bytes_2}
 use Rattle.isp_redo.proofs.fields.be_u16.Goals as goal
 

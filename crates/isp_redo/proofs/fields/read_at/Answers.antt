@@ -1,4 +1,4 @@
-use Rattle.std.proofs.Common.{rules, ◌≡◌, ◌+◌, ◌≤◌, ℕ, List, length, IsSome, OnOk, sym, subst}
+use Rattle.std.proofs.Common.{◌≡◌, ℕ, List, length, OnOk, sym, subst}
 use Rattle.isp_redo.proofs.Steps.{log_slice}
 use Rattle.isp_redo.proofs.fields.read_at.Goals as goal
 

@@ -1,5 +1,4 @@
-use Rattle.std.proofs.Common.{rules, ◌≡◌, ◌≢◌, ◌+◌, ◌-◌, ◌<◌, ◌≤◌, ◌++◌, ◌&&◌, nat_le, nat_lt, true, false, [], ◌∷◌, ℕ, List, length, take, Option, Some, None, IsSome, IfOk, OnOk, Result, refl, sym, ◌∙◌, ap, subst, arith}
-use Rattle.isp_disk.specs.Moments.{Image, slice}
+use Rattle.std.proofs.Common.{sym, ◌∙◌, ap, arith}
 use Rattle.isp_format.specs.Log.{log_of}
 use Rattle.isp_format.specs.Numbers.{bytes_of}
 use Rattle.isp_redo.proofs.Ahead.{counts_at, no_count_at}

@@ -1,4 +1,4 @@
-use Rattle.std.proofs.Common.{rules, ◌≡◌, ◌≢◌, ◌+◌, ◌-◌, ◌<◌, ◌≤◌, ◌++◌, ◌&&◌, nat_le, nat_lt, true, false, [], ◌∷◌, ℕ, List, length, take, Option, Some, None, IsSome, IfOk, OnOk, Result, refl, sym, ◌∙◌, ap, subst, arith}
+use Rattle.std.proofs.Common.{ℕ, Option, IfOk, sym, subst}
 use Rattle.isp_format.specs.Log.{log_of}
 use Rattle.isp_redo.specs.Places.{LeadsOn}
 use Rattle.isp_redo.specs.declared.ranges.Place.{Place}

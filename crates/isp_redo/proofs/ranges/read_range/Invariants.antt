@@ -1,4 +1,4 @@
-use Rattle.std.proofs.Common.{◌≡◌, ◌≤◌, ◌<◌, ◌+◌, ◌-◌, ℕ, List, length, IsSome}
+use Rattle.std.proofs.Common.{◌≡◌, ◌≤◌, ◌<◌, ◌-◌, ℕ, List, IsSome}
 use Rattle.isp_format.specs.Log.{log_bytes, log_of}
 use Rattle.isp_format.specs.Ranges.{Range}
 use Rattle.isp_redo.specs.Places.{IsAt, place_of}

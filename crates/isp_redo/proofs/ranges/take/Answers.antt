@@ -1,8 +1,8 @@
-use Rattle.std.proofs.Common.{rules, ◌≡◌, ◌≢◌, ◌+◌, ◌-◌, ◌<◌, ◌≤◌, ◌++◌, ◌&&◌, nat_le, nat_lt, true, false, [], ◌∷◌, ℕ, List, length, take, Option, Some, None, IsSome, IfOk, OnOk, Result, refl, sym, ◌∙◌, ap, subst, arith}
+use Rattle.std.proofs.Common.{◌≡◌, ◌+◌, ◌-◌, ◌≤◌, ◌&&◌, nat_le, nat_lt, false, ℕ, List, length, Option, IsSome, sym, ◌∙◌, ap, subst, arith}
 use Rattle.std.proofs.lemmas.Bool.Decides.{nat_tests}
 use Rattle.isp_disk.specs.Moments.{Image, slice}
 use Rattle.isp_format.specs.Log.{log_of}
-use Rattle.isp_redo.specs.Places.{IsAt, place_of}
+use Rattle.isp_redo.specs.Places.{IsAt}
 use Rattle.isp_redo.specs.declared.ranges.Place.{Place}
 use Rattle.isp_redo.proofs.Ahead.{takes_at}
 use Rattle.isp_redo.proofs.Positions.{header_is, range_forward}

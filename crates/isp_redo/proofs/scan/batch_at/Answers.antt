@@ -1,7 +1,6 @@
-use Rattle.std.proofs.Common.{rules, ◌≡◌, ◌+◌, ◌<◌, ◌≤◌, ◌++◌, [], ◌∷◌, ℕ, List, length, Option, Some, None, IsSome, refl, sym, ◌∙◌, ap, subst, arith}
-use Rattle.std.proofs.lemmas.Bool.Decides.{nat_tests}
+use Rattle.std.proofs.Common.{◌≡◌, ◌+◌, ℕ, List, Option, IsSome, sym, ◌∙◌, ap, subst, arith}
 use Rattle.isp_disk.specs.Moments.{Image, slice}
-use Rattle.isp_format.specs.Log.{IsBatch, Transaction, log_of}
+use Rattle.isp_format.specs.Log.{IsBatch, log_of}
 use Rattle.isp_format.specs.Numbers.{bytes_of}
 use Rattle.isp_redo.specs.Reading.{AreTransactionsAt, FindsBody}
 use Rattle.isp_redo.proofs.Positions.{batch_made, batch_read, size_is}
@@ -18,7 +17,7 @@ returns-in-Some-clause-found g c tells =
     let tells_gate : IsSome (w.printed c.read_gate.new.world) = subst (λ (p : Option (List ℕ)). IsSome p) (sym c.read_gate.ensures.reads.told) tells in
     let tells_size : IsSome (w.printed c.read_size.new.world) = subst (λ (p : Option (List ℕ)). IsSome p) (sym c.read_size.ensures.reads.told) tells_gate in
     let stands : slice (log_of (w.image old)) (at + 1) 4 ≡ bytes_of 4 size =
-        ap (λ (i : Image). slice (log_of i) (at + 1) 4) (sym c.read_gate.ensures.reads.same) ∙ c.in_ok-read_size.ensures.size tells_gate ∙ ap (bytes_of 4) (sym c.from-size.ensures) in
+    ap (λ (i : Image). slice (log_of i) (at + 1) 4) (sym c.read_gate.ensures.reads.same) ∙ c.in_ok-read_size.ensures.size tells_gate ∙ ap (bytes_of 4) (sym c.from-size.ensures) in
     let body = subst (λ (o : Option ℕ). FindsBody c.args.pages (log_of (w.image c.read_size.new.world)) (at + 5) (at + 5 + size) o) c.in-Some.is (c.in_ok-next.ensures.found tells_size) in
     let room = c.if-at-lt6.false in
     let small = c.if-size-at.false in
@@ -37,10 +36,12 @@ returns-in-None-clause-found g c tells =
     let tells_gate : IsSome (w.printed c.read_gate.new.world) = subst (λ (p : Option (List ℕ)). IsSome p) (sym c.read_gate.ensures.reads.told) tells in
     let tells_size : IsSome (w.printed c.read_size.new.world) = subst (λ (p : Option (List ℕ)). IsSome p) (sym c.read_size.ensures.reads.told) tells_gate in
     let stands : slice (log_of (w.image old)) (at + 1) 4 ≡ bytes_of 4 size =
-        ap (λ (i : Image). slice (log_of i) (at + 1) 4) (sym c.read_gate.ensures.reads.same) ∙ c.in_ok-read_size.ensures.size tells_gate ∙ ap (bytes_of 4) (sym c.from-size.ensures) in
+    ap (λ (i : Image). slice (log_of i) (at + 1) 4) (sym c.read_gate.ensures.reads.same) ∙ c.in_ok-read_size.ensures.size tells_gate ∙ ap (bytes_of 4) (sym c.from-size.ensures) in
     let body = subst (λ (o : Option ℕ). FindsBody c.args.pages (log_of (w.image c.read_size.new.world)) (at + 5) (at + 5 + size) o) c.in-None.is (c.in_ok-next.ensures.found tells_size) in
-    let small = c.if-size-at.false in
-    (gate, λ batch next is.
-      let end = size_is c.args.pages (log_of (w.image old)) at size batch next (omega (arith, small)) stands is in
-      let are = subst (λ (place : ℕ). AreTransactionsAt c.args.pages (log_of (w.image old)) (at + 5) batch place) end (batch_read c.args.pages (log_of (w.image old)) at batch next is) in
-      body batch is.means.some (subst (λ (i : Image). AreTransactionsAt c.args.pages (log_of i) (at + 5) batch (at + 5 + size)) (sym same) are))
+    let small = c.if-size-at.false in (
+      gate,
+      λ batch next is.
+          let end = size_is c.args.pages (log_of (w.image old)) at size batch next (omega (arith, small)) stands is in
+          let are = subst (λ (place : ℕ). AreTransactionsAt c.args.pages (log_of (w.image old)) (at + 5) batch place) end (batch_read c.args.pages (log_of (w.image old)) at batch next is) in
+          body batch is.means.some (subst (λ (i : Image). AreTransactionsAt c.args.pages (log_of i) (at + 5) batch (at + 5 + size)) (sym same) are),
+    )

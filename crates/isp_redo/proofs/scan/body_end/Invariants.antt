@@ -1,4 +1,4 @@
-use Rattle.std.proofs.Common.{◌≡◌, ◌≤◌, ◌<◌, ◌+◌, ◌-◌, ℕ, List, length, IsSome}
+use Rattle.std.proofs.Common.{◌≡◌, ◌≤◌, ◌-◌, List, IsSome}
 use Rattle.isp_format.specs.Log.{Transaction, log_of}
 use Rattle.isp_redo.specs.Reading.{AreTransactionsAt, OnlyReads}
 use Rattle.isp_redo.proofs.scan.body_end.Given as goal

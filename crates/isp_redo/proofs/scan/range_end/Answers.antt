@@ -1,4 +1,4 @@
-use Rattle.std.proofs.Common.{rules, ◌≡◌, ◌+◌, ◌<◌, ◌≤◌, ◌&&◌, nat_le, nat_lt, true, ℕ, IsSome, refl, sym, ◌∙◌, ap, subst, arith}
+use Rattle.std.proofs.Common.{◌+◌, ℕ, sym, ◌∙◌, subst}
 use Rattle.isp_disk.specs.Moments.{slice}
 use Rattle.isp_format.specs.Log.{log_of}
 use Rattle.isp_format.specs.Ranges.{Range}

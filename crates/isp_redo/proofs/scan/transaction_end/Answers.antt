@@ -1,11 +1,11 @@
-use Rattle.std.proofs.Common.{rules, ◌≡◌, ◌+◌, ◌<◌, ◌≤◌, ◌++◌, [], ◌∷◌, ℕ, List, length, Option, Some, None, IsSome, refl, sym, ◌∙◌, ap, subst, arith}
+use Rattle.std.proofs.Common.{◌+◌, ◌<◌, ◌≤◌, ◌++◌, [], ◌∷◌, ℕ, List, length, Option, None, IsSome, sym, ◌∙◌, ap, subst, arith}
 use Rattle.std.proofs.lemmas.List.{length-append}
-use Rattle.isp_disk.specs.Moments.{Image, slice}
-use Rattle.isp_format.specs.Log.{Transaction, log_of}
+use Rattle.isp_disk.specs.Moments.{Image}
+use Rattle.isp_format.specs.Log.{log_of}
 use Rattle.isp_format.specs.Ranges.{Range}
 use Rattle.isp_redo.specs.Reading.{AreRangesAt, FindsRange, IsOnward, IsRangeAt}
 use Rattle.isp_redo.proofs.Chained.{chain_reads}
-use Rattle.isp_redo.proofs.Positions.{count_is, range_forward, ranges_forward, ranges_on, ranges_rest, transaction_forward}
+use Rattle.isp_redo.proofs.Positions.{count_is, ranges_forward, ranges_on, ranges_rest, transaction_forward}
 use Rattle.isp_redo.proofs.scan.transaction_end.Goals as goal
 
 pub returns-then-end-at-lt2-clause-found : goal.returns-then-end-at-lt2-clause-found
@@ -41,17 +41,16 @@ loop-range-preserved g c =
     let old = c.args.world.now in
     let mid = c.loop-range.world in
     let inv = c.loop-range.invariant in
-    let onward = subst (λ (o : Option ℕ). IsOnward c.loop-range.place c.args.end o) c.in-Some.is c.in_ok-next.ensures.onward in
-    (
+    let onward = subst (λ (o : Option ℕ). IsOnward c.loop-range.place c.args.end o) c.in-Some.is c.in_ok-next.ensures.onward in (
       chain_reads w.clock w.left_since w.image w.pending w.printed w.print_faults old mid c.range_end.new.world inv.0 c.range_end.ensures.reads,
       c.in_ok-next.ensures.cause.steady ∙ inv.1,
       omega (arith, inv.2, onward.0),
       onward.1,
       λ tells.
-      let so_far = inv.4 tells in
-      let tells_mid : IsSome (w.printed mid) = subst (λ (p : Option (List ℕ)). IsSome p) (sym inv.0.told) tells in
-      let found = subst (λ (o : Option ℕ). FindsRange c.args.pages (log_of (w.image mid)) c.loop-range.place c.args.end o) c.in-Some.is (c.in_ok-next.ensures.found tells_mid) in
-      let is = subst (λ (i : Image). IsRangeAt c.args.pages (log_of i) c.loop-range.place found.0 c.in-Some.next) inv.0.same found.1 in
-      let long = length-append so_far.0 (found.0 ∷ []) in
-      (so_far.0 ++ found.0 ∷ [], omega (arith, long, so_far.1), ranges_on c.args.pages (log_of (w.image old)) (c.args.at + 2) so_far.0 c.loop-range.place found.0 c.in-Some.next so_far.2 is),
+          let so_far = inv.4 tells in
+          let tells_mid : IsSome (w.printed mid) = subst (λ (p : Option (List ℕ)). IsSome p) (sym inv.0.told) tells in
+          let found = subst (λ (o : Option ℕ). FindsRange c.args.pages (log_of (w.image mid)) c.loop-range.place c.args.end o) c.in-Some.is (c.in_ok-next.ensures.found tells_mid) in
+          let is = subst (λ (i : Image). IsRangeAt c.args.pages (log_of i) c.loop-range.place found.0 c.in-Some.next) inv.0.same found.1 in
+          let long = length-append so_far.0 (found.0 ∷ []) in
+          (so_far.0 ++ found.0 ∷ [], omega (arith, long, so_far.1), ranges_on c.args.pages (log_of (w.image old)) (c.args.at + 2) so_far.0 c.loop-range.place found.0 c.in-Some.next so_far.2 is),
     )

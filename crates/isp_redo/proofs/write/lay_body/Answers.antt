@@ -1,9 +1,9 @@
-use Rattle.std.proofs.Common.{rules, ◌≡◌, ◌+◌, ◌≤◌, ℕ, List, [], ◌∷◌, length, IsSome, OnOk, Option, refl, sym, subst, ◌∙◌, ap, arith}
+use Rattle.std.proofs.Common.{◌+◌, ℕ, List, [], ◌∷◌, length, IsSome, Option, refl, sym, subst, ◌∙◌, ap, arith}
 use Rattle.isp_disk.specs.Moments.{Image, in_range, put, slice}
 use Rattle.isp_disk.proofs.Moments.{begins, writes, keeps}
 use Rattle.isp_format.specs.Numbers.{bytes_of}
 use Rattle.isp_format.proofs.Offsets.{range_within}
-use Rattle.isp_redo.proofs.Laying.{laid_body, laid_gate, laid_size}
+use Rattle.isp_redo.proofs.Laying.{laid_body, laid_size}
 use Rattle.isp_redo.proofs.write.lay_body.Goals as goal
 
 pub returns-in_err-write-clause-leaves : goal.returns-in_err-write-clause-leaves

@@ -1,5 +1,5 @@
-use Rattle.std.proofs.Common.{rules, ◌≡◌, ◌+◌, ◌≤◌, ℕ, List, [], ◌∷◌, length, IsSome, OnOk, refl, sym, ◌∙◌, ap, arith}
-use Rattle.isp_disk.specs.Moments.{Agree, Quiet, in_range, put}
+use Rattle.std.proofs.Common.{ℕ, [], ◌∙◌, ap}
+use Rattle.isp_disk.specs.Moments.{in_range}
 use Rattle.isp_disk.proofs.Moments.{begins, writes, keeps}
 use Rattle.isp_format.proofs.Offsets.{put_first}
 use Rattle.isp_redo.proofs.write.set_gate.Goals as goal

@@ -1,4 +1,4 @@
-use Rattle.std.proofs.Common.{rules, ◌≡◌, ◌+◌, ◌<◌, ◌++◌, [], ◌∷◌, ℕ, List, length, IsSome, OnOk, Option, refl, sym, ◌∙◌, ap, subst, arith}
+use Rattle.std.proofs.Common.{◌≡◌, ◌+◌, ◌++◌, [], ◌∷◌, ℕ, List, length, IsSome, Option, sym, ◌∙◌, subst, arith}
 use Rattle.isp_disk.proofs.Moments.{widens, chains}
 use Rattle.isp_format.specs.Log.{IsLog, log_of}
 use Rattle.isp_redo.proofs.Steps.{IsLaid, behind_has, opened_has, opened_is}

@@ -1,4 +1,4 @@
-use Rattle.std.proofs.Common.{rules, ◌≡◌, ◌≢◌, ◌+◌, ◌<◌, ◌++◌, [], ◌∷◌, ℕ, List, length, IsSome, OnOk, Option, refl, sym, ◌∙◌, ap, subst, arith}
+use Rattle.std.proofs.Common.{◌≡◌, ◌≢◌, [], arith}
 use Rattle.std.proofs.lemmas.Bool.Decides.{nat_tests}
 use Rattle.isp_disk.proofs.Moments.{started, widens, quiet_agrees}
 use Rattle.isp_redo.proofs.Steps.{empty_is, reset_has, same_has}
@@ -9,8 +9,8 @@ returns-then-self-eq0-clause-moments g c tells pages batches log =
     let w = g.W.World in
     let old = c.args.world.now in
     started w.clock w.left_since old _ (λ left told since.
-      let now = g.met.W.World.only_now old left told since in
-      (same_has pages (w.image old) left batches [] c.args.self.now.end 0 log (quiet_agrees (w.pending old) (w.image old) left c.requires.quiet now.0), now.1))
+    let now = g.met.W.World.only_now old left told since in
+    (same_has pages (w.image old) left batches [] c.args.self.now.end 0 log (quiet_agrees (w.pending old) (w.image old) left c.requires.quiet now.0), now.1))
 
 pub returns-then-self-eq0-clause-emptied : goal.returns-then-self-eq0-clause-emptied
 returns-then-self-eq0-clause-emptied g c tells pages batches log =
