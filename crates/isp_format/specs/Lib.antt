@@ -1,0 +1,8 @@
+pub mod Contents
+pub mod Control
+pub mod Doublewrite
+pub mod Empty
+pub mod Header
+pub mod Log
+pub mod Numbers
+pub mod Ranges

@@ -1,0 +1,5 @@
+pub mod Ahead
+pub mod Chained
+pub mod Laying
+pub mod Positions
+pub mod Steps
