@@ -1,10 +1,10 @@
 //! Reading and writing the header at the front of a page.
-ghost use Rattle.std.specs.Prelude.{◌≡◌, ℕ};
+ghost use Rattle.std.specs.Prelude.{◌≡◌, ℕ, length};
 ghost use Rattle.isp_disk.specs.Moments.{image_of, put};
 ghost use Rattle.isp_format.specs.Header.{header_bytes, header_of};
 ghost use Rattle.isp_page.specs.HeadValues.{header_in};
 
-use crate::fields::{get_u16, get_u32, get_u64, put_bytes, put_u16, put_u32, put_u64};
+use crate::fields::{get_u16, get_u32, get_u64, put_kind, put_u16, put_u32, put_u64};
 use crate::header::Head;
 use crate::page::{Page, PageNo};
 
@@ -29,9 +29,10 @@ pub fn head(p: &Page) -> Head
 pub fn set_head(p: &mut Page, h: &Head)
     ensures bytes { (place : ℕ) → image_of p.new.bytes place
         ≡ put (image_of p.old.bytes) 0 (header_bytes (header_in h.now)) place }
+    ensures size { length p.new.bytes ≡ length p.old.bytes }
     ensures head { header_of p.new.bytes ≡ header_in h.now }
 {
-    put_bytes(p, 0, &[h.kind, h.level]);
+    put_kind(p, h.kind, h.level);
     put_u16(p, 2, h.count);
     put_u32(p, 4, h.owner);
     put_u32(p, 8, h.next.0);
