@@ -64,12 +64,7 @@ impl Model for MemPages {
 
 impl MemPages {
     /// The pages of an empty file with these numbers, and memory for `room` printed bytes.
-    pub fn new(
-        alloc: Global,
-        pages: u32,
-        fanout: u32,
-        room: usize,
-    ) -> Result<MemPages, AllocError>
+    pub fn new(alloc: Global, pages: u32, fanout: u32, room: usize) -> Result<MemPages, AllocError>
         requires pages { IsPages pages }
         requires fanout { IsFanout fanout }
         ensures new { IfOk result (λ m. m ≡ new_pages pages fanout room m.bytes) }
@@ -97,7 +92,9 @@ impl MemPages {
     fn tell_kept(&mut self, line: &[u8]) -> Result<(), StoreFault>
         ensures done { is_ok result ≡ nat_le (length line.now) self.old.room }
         ensures whole { OnOk result (self.new ≡ record self.old {
-            printed = self.old.printed ++ line.now; room = self.old.room - length line.now }) }
+          printed = self.old.printed ++ line.now;
+          room = self.old.room - length line.now;
+        }) }
         ensures refused { OnErr result (self.new ≡ record self.old { print_faults = counted self.old.print_faults }) }
         ensures cause { FailsBy Print self.old.print_faults self.new.print_faults result }
     {
@@ -178,7 +175,11 @@ fn put_first_header(bytes: &mut Vec<u8>, page: u32)
         bytes: [0; PAGE_BYTES],
     };
     set_head(&mut first, &first_head(page));
-    put_over(bytes, page as usize * PAGE_BYTES, &first.bytes[..HEADER_BYTES]);
+    put_over(
+        bytes,
+        page as usize * PAGE_BYTES,
+        &first.bytes[..HEADER_BYTES],
+    );
 }
 
 // The bytes of all pages of an empty file.
@@ -237,7 +238,8 @@ impl Pages for MemPages {
 
     fn change(&mut self, p: PageNo, at: u16, bytes: &[u8]) -> Result<(), StoreFault> {
         note(&mut self.changed, p.0);
-        put_over(&mut self.bytes, p.0 as usize * PAGE_BYTES + at as usize, bytes);
+        let place = p.0 as usize * PAGE_BYTES + at as usize;
+        put_over(&mut self.bytes, place, bytes);
         Ok(())
     }
 
@@ -258,7 +260,9 @@ impl Pages for MemPages {
     fn tell(&mut self, line: &[u8]) -> Result<(), StoreFault>
         ensures done { is_ok result ≡ nat_le (length line.now) self.old.room }
         ensures whole { OnOk result (self.new ≡ record self.old {
-            printed = self.old.printed ++ line.now; room = self.old.room - length line.now }) }
+          printed = self.old.printed ++ line.now;
+          room = self.old.room - length line.now;
+        }) }
         ensures refused { OnErr result (self.new ≡ record self.old { print_faults = counted self.old.print_faults }) }
         ensures told { Prints (Some self.old.printed) line.now (Some self.new.printed) result }
         ensures contents { IsSome (Some self.old.printed) → image_of self.new.bytes ≡ image_of self.old.bytes }
