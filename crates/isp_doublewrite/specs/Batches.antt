@@ -1,5 +1,5 @@
 -- What a batch leaves.
-use Rattle.std.specs.Prelude.{◌≡◌, ◌⊎◌, ℕ, ◌+◌, ◌*◌, List, All, length, map, Option}
+use Rattle.std.specs.Prelude.{◌≡◌, ◌⊎◌, ℕ, ◌+◌, ◌*◌, List, [], ◌∷◌, length, map, Option}
 use Rattle.isp_disk.specs.Moments.{Image, Agree}
 use Rattle.isp_doublewrite.specs.Places.{batch_places}
 use Rattle.isp_format.specs.Control.{pages_in}
@@ -15,11 +15,16 @@ number_of entry = entry.0.0
 abbrev pub whole_page : PageNo × Page → Range
 whole_page entry = record { page = entry.0.0; at = 0; bytes = entry.1.bytes }
 
+-- each range is a page from its first byte to its last
+abbrev pub AreWhole : List Range → Type 0
+AreWhole [] = Unit {0}
+AreWhole (range ∷ ranges) = (range.at ≡ 0) × (length range.bytes ≡ page_bytes) × AreWhole ranges
+
 -- the list and the copies are these pages
 pub record IsStaged (count : ℕ) (ranges : List Range) (image : Image) : Type 0 where
   pub counted : copy_count image ≡ count
   pub listed : copies_from image 0 count ≡ ranges
-  pub whole : All (λ range. length range.bytes ≡ page_bytes) ranges
+  pub whole : AreWhole ranges
 
 -- the pages stand in their places, over what stood there
 pub record IsPlaced (ranges : List Range) (before now : Image) : Type 0 where
