@@ -17,9 +17,9 @@ pub moved : (by at size place : ℕ) → in_range (by + at) size (by + place) �
 moved by at size place = elim (cases_lt place at) [
   | inl low ↦ below (by + at) size (by + place) (omega arith) ∙ sym (below at size place low)
   | inr from ↦ elim (cases_lt place (at + size)) [
-      | inl to ↦ inside (by + at) size (by + place) (omega arith) (omega arith) ∙ sym (inside at size place from to)
-      | inr past ↦ above (by + at) size (by + place) (omega arith) ∙ sym (above at size place past)
-    ]
+    | inl to ↦ inside (by + at) size (by + place) (omega arith) (omega arith) ∙ sym (inside at size place from to)
+    | inr past ↦ above (by + at) size (by + place) (omega arith) ∙ sym (above at size place past)
+  ]
 ]
 
 -- the page area after a write into it

@@ -1,12 +1,15 @@
 -- The list of copies as numbers, and its rule as a test.
-use Rattle.std.proofs.Common.{◌≡◌, ◌≢◌, ◌⊎◌, inl, inr, ℕ, zero, suc, ◌+◌, ◌*◌, ◌<◌, ◌≤◌, ◌==◌, ◌&&◌, not, Bool, true, false, List, [], ◌∷◌, All, length, map, min, take, get_or, refl, sym, ◌∙◌, ap, subst, arith}
+use Rattle.std.proofs.Common.{◌≡◌, ◌≢◌, ◌⊎◌, inl, inr, ℕ, zero, suc, ◌+◌, ◌*◌, ◌<◌, ◌≤◌, ◌==◌, ◌&&◌, not, Bool, true, false, List, [], ◌∷◌, All, length, map, min, take, drop, get_or, refl, sym, ◌∙◌, ap, subst, arith}
 use Rattle.std.specs.Prelude.{nat_lt, slice_index}
 use Rattle.std.specs.List.{list_any}
 use Rattle.std.proofs.lemmas.List.Elements.{All-cons, All-head, All-tail}
-use Rattle.std.proofs.lemmas.List.{get_or-take, length-take}
+use Rattle.std.proofs.lemmas.List.{get_or-drop, get_or-take, length-take}
 use Rattle.std.proofs.lemmas.Bool.{cases_eq}
 use Rattle.std.proofs.lemmas.Bool.Decides.{nat_tests}
-use Rattle.isp_disk.specs.Moments.{Image}
+use Rattle.byteorder.specs.Endian.{big_number}
+use Rattle.isp_disk.specs.Moments.{Image, slice}
+use Rattle.isp_format.proofs.Headers.{number_read, slice_byte}
+use Rattle.isp_format.proofs.Slices.{slice_moved}
 use Rattle.isp_doublewrite.specs.Lists.{HasNumbers, IsNumbers, are_good, is_copy_list}
 use Rattle.isp_format.specs.Doublewrite.{AreDistinct, HasCopies, IsCopyList, copies, copies_from, copy_at, copy_count, doublewrite_gate, list_place, most_copies}
 use Rattle.isp_format.specs.Numbers.{number_at}
@@ -120,3 +123,28 @@ pub rule_back : (pages : ℕ) (image : Image) (numbers : List ℕ) → image dou
 rule_back pages image numbers gate all has =
     list_back pages (copy_count image) (take (min (copy_count image) 64) numbers)
     (subst (λ (ns : List ℕ). IsCopyList pages (copy_count image) ns) (copied_are image numbers gate all) (has gate))
+
+-- a number of the list, from the bytes that were read
+pub listed_number : (image : Image) (list : List ℕ) (k : ℕ) → list ≡ slice image 1024 260 → k < 64 → big_number 4 (drop (4 * k) (take 256 (drop 4 list))) ≡ number_at 4 image (list_place + 4 * k)
+listed_number image list k is small =
+    let piece : List ℕ = take 256 (drop 4 list) in
+    number_read 4 piece (4 * k)
+    ∙ ap (big_number 4) (slice_moved (slice_index piece) image (4 * k) (list_place + 4 * k) 4 (λ j less.
+    let behind : 1024 + (4 + (4 * k + j)) ≡ list_place + 4 * k + j = omega arith in
+    get_or-take 256 (drop 4 list) (4 * k + j) 0 (omega (arith, less, small))
+    ∙ get_or-drop 4 list (4 * k + j) 0
+    ∙ ap (λ (l : List ℕ). slice_index l (4 + (4 * k + j))) is
+    ∙ slice_byte image 1024 260 (4 + (4 * k + j)) (omega (arith, less, small))
+    ∙ ap image behind))
+
+-- the copies that count, as many as numbers were taken
+pub copies_taken : (image : Image) (numbers : List ℕ) (count : ℕ) → image doublewrite_gate ≡ 1 → length numbers ≡ 64 → count ≡ copy_count image → count ≤ 64 → copies_from image 0 (length (take count numbers)) ≡ copies image
+copies_taken image numbers count gate all is most =
+    let long : length (take count numbers) ≡ min (copy_count image) most_copies = omega (arith, length-take count numbers, all, is, most) in
+    ap (copies_from image 0) long ∙ sym (copies_open image gate)
+
+-- and their pages
+pub pages_taken : (image : Image) (numbers : List ℕ) (count : ℕ) → image doublewrite_gate ≡ 1 → IsNumbers image numbers → count ≡ copy_count image → count ≤ 64 → take count numbers ≡ map (λ copy. copy.page) (copies image)
+pages_taken image numbers count gate all is most =
+    let cut : count ≡ min (copy_count image) 64 = omega (arith, is, most) in
+    ap (λ (n : ℕ). take n numbers) cut ∙ sym (copied_are image numbers gate all)

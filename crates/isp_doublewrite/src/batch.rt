@@ -8,8 +8,9 @@ ghost use Rattle.isp_doublewrite.specs.Places.{page_places, staged_places};
 ghost use Rattle.isp_format.specs.Control.{pages_in};
 ghost use Rattle.isp_format.specs.Doublewrite.{AreDistinct, doublewrite_gate, most_copies};
 
-use crate::places::{COUNT, copy_place, number_place, page_place, set_gate};
-use byteorder::{BigEndian, ByteOrder};
+use crate::places::{
+    COUNT, all_bytes, copy_place, number_place, page_place, set_gate, write_number,
+};
 use isp_disk::{Failed, World};
 use isp_page::{Page, PageNo};
 
@@ -50,15 +51,12 @@ fn stage<W: World>(world: &mut W, batch: &[(PageNo, Page)]) -> Result<(), Failed
     ensures cause { HasCause (W.disk_faults world.old) (W.disk_faults world.new) result }
     ensures printer { W.print_faults world.new ≡ W.print_faults world.old }
 {
-    let mut piece = [0; 4];
-    BigEndian::write_u32(&mut piece, batch.len() as u32);
-    world.write(COUNT, &piece)?;
+    write_number(world, COUNT, batch.len() as u32)?;
     for (k, (number, page)) in batch.iter().enumerate() {
-        BigEndian::write_u32(&mut piece, number.0);
-        world.write(number_place(k), &piece)?;
-        world.write(copy_place(k), &page.bytes)?;
+        write_number(world, number_place(k), number.0)?;
+        world.write(copy_place(k), all_bytes(page))?;
     }
-    world.sync()?;
+    world.sync()?; // before the gate makes them count
     Ok(())
 }
 
@@ -74,8 +72,8 @@ fn place<W: World>(world: &mut W, batch: &[(PageNo, Page)]) -> Result<(), Failed
     ensures printer { W.print_faults world.new ≡ W.print_faults world.old }
 {
     for (number, page) in batch {
-        world.write(page_place(number.0), &page.bytes)?;
+        world.write(page_place(number.0), all_bytes(page))?;
     }
-    world.sync()?;
+    world.sync()?; // before the copies count no more
     Ok(())
 }

@@ -1,13 +1,16 @@
 //! Where the doublewrite area and the pages stand in the file, and the gate.
-ghost use Rattle.std.specs.Prelude.{◌≡◌, ◌+◌, ◌*◌, ◌<◌, [], ◌∷◌, IsSome, OnOk};
+ghost use Rattle.std.specs.Prelude.{◌≡◌, ◌+◌, ◌*◌, ◌^◌, ◌<◌, [], ◌∷◌, IsSome, OnOk, length};
 ghost use Rattle.isp_disk.proofs.Moments.{Phase};
-ghost use Rattle.isp_disk.specs.Moments.{Quiet, put};
+ghost use Rattle.isp_disk.specs.Moments.{During, Elapses, Quiet, Touches, in_range, put};
 ghost use Rattle.isp_disk.specs.Outside.{HasCause};
 ghost use Rattle.isp_doublewrite.specs.Places.{gate_place};
 ghost use Rattle.isp_format.specs.Doublewrite.{area_place, copies_place, doublewrite_gate, list_place};
+ghost use Rattle.isp_format.specs.Numbers.{bytes_of};
 ghost use Rattle.isp_format.specs.Ranges.{page_bytes};
 
+use byteorder::{BigEndian, ByteOrder};
 use isp_disk::{Failed, World};
+use isp_page::Page;
 
 /// The gate byte: the copies count where it is 1.
 pub(crate) const GATE: u64 = 512;
@@ -39,6 +42,32 @@ pub(crate) fn page_place(number: u32) -> u64
     ensures { result ≡ area_place + page_bytes * number }
 {
     1_314_816 + 4_096 * number as u64
+}
+
+/// The bytes of a page.
+pub(crate) fn all_bytes(page: &Page) -> &[u8]
+    ensures value { result.now ≡ page.now.bytes }
+    ensures size { length result.now ≡ page_bytes }
+{
+    &page.bytes
+}
+
+/// Writes a number in four bytes.
+pub(crate) fn write_number<W: World>(world: &mut W, at: u64, number: u32) -> Result<(), Failed>
+    ensures written { IsSome (W.printed world.old) → OnOk result (W.image world.new
+        ≡ put (W.image world.old) at (bytes_of 4 number)) }
+    ensures disk { Touches (W.image world.old) (W.pending world.old) at 4 (W.image world.new) (W.pending world.new) }
+    ensures printed { W.printed world.new ≡ W.printed world.old }
+    ensures time { Elapses (W.clock world.old) (W.clock world.new) (W.left_since world.old) (W.left_since world.new)
+        (During (W.image world.old) (W.pending world.old) (in_range at 4) (W.printed world.old) []) }
+    ensures fits { number < 256 ^ 4 }
+    ensures cause { HasCause (W.disk_faults world.old) (W.disk_faults world.new) result }
+    ensures printer { W.print_faults world.new ≡ W.print_faults world.old }
+{
+    let mut piece = [0; 4];
+    BigEndian::write_u32(&mut piece, number);
+    world.write(at, &piece)?;
+    Ok(())
 }
 
 /// Writes the gate, and makes it durable.

@@ -68,6 +68,6 @@ fn lay<W: World>(world: &mut W, numbers: &[u32]) -> Result<(), Failed>
         world.read(copy_place(k), &mut page)?;
         world.write(page_place(*number), &page)?;
     }
-    world.sync()?;
+    world.sync()?; // before the copies count no more
     Ok(())
 }

@@ -51,10 +51,8 @@ fn a_header_has_its_bytes(rt: HostRuntime) {
 }
 
 #[test]
-fn pages_in_memory_go_through_each_call(rt: HostRuntime) -> Result<(), Fail> {
-    let mut store = MemPages::new(rt.alloc(), 64, 4, 8)?;
-    assert_eq!(rt; store.pages(), 64);
-    assert_eq!(rt; store.fanout(), 4);
+fn pages_in_memory_begin_as_an_empty_file(rt: HostRuntime) -> Result<(), Fail> {
+    let mut store = MemPages::new(rt.alloc(), 64, 4, 0)?;
     let mut page = Page {
         bytes: [9; PAGE_BYTES],
     };
@@ -67,6 +65,7 @@ fn pages_in_memory_go_through_each_call(rt: HostRuntime) -> Result<(), Fail> {
         (16, 0, 0),
         (63, 0, 0),
     ] {
+        assert!(rt; number < store.pages());
         store.read(PageNo(number), &mut page)?;
         let head = head(&page);
         assert_eq!(rt;
@@ -74,6 +73,17 @@ fn pages_in_memory_go_through_each_call(rt: HostRuntime) -> Result<(), Fail> {
             (kind, PageNo(own), PageNo(0), 0)
         );
     }
+    Ok(())
+}
+
+#[test]
+fn pages_in_memory_go_through_each_call(rt: HostRuntime) -> Result<(), Fail> {
+    let mut store = MemPages::new(rt.alloc(), 64, 4, 8)?;
+    assert_eq!(rt; store.pages(), 64);
+    assert_eq!(rt; store.fanout(), 4);
+    let mut page = Page {
+        bytes: [9; PAGE_BYTES],
+    };
     store.begin();
     store.change(PageNo(63), 0, b"ab")?;
     store.change(PageNo(63), 1, b"cd")?;
