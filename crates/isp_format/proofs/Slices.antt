@@ -1,7 +1,7 @@
 -- Slices of images and numbers in them: they read their own places alone, and read back what was put there.
-use Rattle.std.proofs.Common.{◌≡◌, inl, inr, ℕ, zero, suc, ◌+◌, ◌-◌, ◌<◌, ◌≤◌, ◌^◌, Bool, true, false, List, [], ◌∷◌, ◌++◌, length, refl, sym, ◌∙◌, ap, subst, arith, if◌then◌else◌}
+use Rattle.std.proofs.Common.{◌≡◌, inl, inr, ℕ, zero, suc, ◌+◌, ◌-◌, ◌<◌, ◌≤◌, ◌^◌, Bool, true, false, List, [], ◌∷◌, ◌++◌, length, take, drop, refl, sym, ◌∙◌, ap, subst, arith, if◌then◌else◌}
 use Rattle.std.specs.Prelude.{slice_index}
-use Rattle.std.proofs.lemmas.List.{append-nil}
+use Rattle.std.proofs.lemmas.List.{append-nil, get_or-drop, length-drop}
 use Rattle.byteorder.specs.Endian.{big_number}
 use Rattle.byteorder.specs.Numbers.{big_number-reads_back, length-bytes_high_first}
 use Rattle.isp_disk.specs.Moments.{Image, Region, Agree, in_range, put, slice}
@@ -59,6 +59,24 @@ list_slice (b ∷ bytes) =
     let none : k ≡ 0 + k = omega arith in
     ap (slice_index (b ∷ bytes)) up ∙ ap (slice_index bytes) none) in
     λ i. b ∷ (rest ∙ list_slice bytes) i
+
+-- the front of a list, and a piece of it, are slices of its image
+front_slice : (bytes : List ℕ) (size : ℕ) → size ≤ length bytes → take size bytes ≡ slice (slice_index bytes) 0 size
+front_slice bytes zero fits = refl
+front_slice [] (suc size) fits = absurd (omega (arith, fits))
+front_slice (b ∷ bytes) (suc size) fits =
+    let rest : slice (slice_index bytes) 0 size ≡ slice (slice_index (b ∷ bytes)) 1 size = slice_moved (slice_index bytes) (slice_index (b ∷ bytes)) 0 1 size (λ k less.
+    let up : suc k ≡ 1 + k = omega arith in
+    let none : 0 + k ≡ k = omega arith in
+    ap (slice_index bytes) none ∙ ap (slice_index (b ∷ bytes)) up) in
+    λ i. b ∷ (front_slice bytes size (omega (arith, fits)) ∙ rest) i
+
+pub piece_slice : (bytes : List ℕ) (at size : ℕ) → at + size ≤ length bytes → take size (drop at bytes) ≡ slice (slice_index bytes) at size
+piece_slice bytes at size fits =
+    front_slice (drop at bytes) size (omega (arith, length-drop at bytes))
+    ∙ slice_moved (slice_index (drop at bytes)) (slice_index bytes) 0 at size (λ k less.
+    let none : at + (0 + k) ≡ at + k = omega arith in
+    get_or-drop at bytes (0 + k) 0 ∙ ap (slice_index bytes) none)
 
 -- what was put is read back
 pub slice_put : (image : Image) (at : ℕ) (bytes : List ℕ) → slice (put image at bytes) at (length bytes) ≡ bytes

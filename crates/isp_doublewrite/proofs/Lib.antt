@@ -1,0 +1,4 @@
+mod InPlace
+mod Leaving
+mod Numbered
+mod Staging

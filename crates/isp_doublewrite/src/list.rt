@@ -1,0 +1,84 @@
+//! The list of copies, as it is read, and its rule.
+ghost use Rattle.std.specs.Prelude.{◌≡◌, ◌↔◌, ◌≤◌, ◌==◌, IsSome, IsTrue, IfOk, OnOk, length, min, take};
+ghost use Rattle.isp_disk.specs.Moments.{LeavesOnly, Quiet};
+ghost use Rattle.isp_disk.proofs.Moments.{Phase};
+ghost use Rattle.isp_disk.specs.Moments.{no_place};
+ghost use Rattle.isp_disk.specs.Outside.{HasCause};
+ghost use Rattle.isp_doublewrite.specs.Lists.{IsNumbers, are_good, is_copy_list};
+ghost use Rattle.isp_format.specs.Doublewrite.{HasCopies, copy_count, doublewrite_gate};
+
+use crate::places::{COUNT, GATE, MOST_COPIES};
+use byteorder::{BigEndian, ByteOrder};
+use isp_disk::{Failed, World};
+
+/// Whether the copies keep their rule: where the gate is 1, the list has 1 to 64 numbers, each below `pages` and none
+/// twice. Nothing is written.
+pub fn check_copies<W: World>(world: &mut W, pages: u32) -> Result<bool, Failed>
+    requires { Quiet (W.pending world.old) }
+    ensures kept { IsSome (W.printed world.old)
+        → IfOk result (λ kept. IsTrue kept ↔ HasCopies pages (W.image world.old)) }
+    ensures phase { Phase W.clock W.left_since W.image W.pending W.printed world.old world.new no_place }
+    ensures cause { HasCause (W.disk_faults world.old) (W.disk_faults world.new) result }
+    ensures printer { W.print_faults world.new ≡ W.print_faults world.old }
+{
+    if read_gate(world)? != 1 {
+        return Ok(true);
+    }
+    let mut numbers = [0; MOST_COPIES];
+    let count = read_list(world, &mut numbers)?;
+    Ok(is_copy_list(count, &numbers, pages))
+}
+
+/// Reads the gate.
+pub(crate) fn read_gate<W: World>(world: &mut W) -> Result<u8, Failed>
+    requires { Quiet (W.pending world.old) }
+    ensures gate { IsSome (W.printed world.old) → IfOk result (λ gate. gate ≡ W.image world.old doublewrite_gate) }
+    ensures phase { Phase W.clock W.left_since W.image W.pending W.printed world.old world.new no_place }
+    ensures cause { HasCause (W.disk_faults world.old) (W.disk_faults world.new) result }
+    ensures printer { W.print_faults world.new ≡ W.print_faults world.old }
+{
+    let mut gate = [0];
+    world.read(GATE, &mut gate)?;
+    Ok(gate[0])
+}
+
+/// Reads the page numbers of the 64 copies, and answers how many of them count.
+pub(crate) fn read_list<W: World>(world: &mut W, numbers: &mut [u32]) -> Result<u32, Failed>
+    requires quiet { Quiet (W.pending world.old) }
+    requires all { length numbers.old ≡ 64 }
+    ensures count { IsSome (W.printed world.old) → IfOk result (λ count. count ≡ copy_count (W.image world.old)) }
+    ensures numbers { IsSome (W.printed world.old) → OnOk result (IsNumbers (W.image world.old) numbers.new) }
+    ensures phase { Phase W.clock W.left_since W.image W.pending W.printed world.old world.new no_place }
+    ensures cause { HasCause (W.disk_faults world.old) (W.disk_faults world.new) result }
+    ensures printer { W.print_faults world.new ≡ W.print_faults world.old }
+{
+    let mut list = [0; 260];
+    world.read(COUNT, &mut list)?;
+    BigEndian::read_u32_into(&list[4..], numbers);
+    Ok(BigEndian::read_u32(&list))
+}
+
+/// Whether so many of the numbers are a list of copies.
+pub(crate) fn is_copy_list(count: u32, numbers: &[u32], pages: u32) -> bool
+    requires { length numbers.now ≡ 64 }
+    ensures { result ≡ is_copy_list pages count (take (min count 64) numbers.now) }
+{
+    if count == 0 || count as usize > MOST_COPIES {
+        return false;
+    }
+    are_good(&numbers[..count as usize], pages)
+}
+
+// Whether the numbers are below the number of pages, and none stands twice.
+fn are_good(numbers: &[u32], pages: u32) -> bool
+    ensures { result ≡ are_good pages numbers.now }
+{
+    let mut rest = numbers;
+    while let [first, others @ ..] = rest {
+        if *first >= pages || others.contains(first) {
+            return false;
+        }
+        rest = others;
+    }
+    true
+}

@@ -1,0 +1,3 @@
+mod Heading
+mod Making
+pub mod Running

@@ -1,0 +1,3 @@
+pub mod Calls
+pub mod HeadValues
+pub mod InMemory

@@ -1,0 +1,279 @@
+//! Pages in memory, with no disk below them. They tell their contents and what was printed, and no moments.
+ghost use Rattle.std.specs.Prelude.{◌≡◌, ◌+◌, ◌*◌, ◌-◌, ◌<◌, ◌≤◌, ◌++◌, [], ℕ, Some, is_ok, length, nat_le, replicate, vec_capacity, IfOk, IsSome, OnOk, OnErr};
+ghost use Rattle.isp_disk.specs.InMemory.{counted};
+ghost use Rattle.isp_disk.specs.Moments.{image_of, put, slice};
+ghost use Rattle.isp_format.specs.Control.{IsFanout, IsPages};
+ghost use Rattle.isp_disk.specs.Outside.{Prints};
+ghost use Rattle.isp_format.specs.Empty.{empty_contents, first_header, first_headers, first_kind};
+ghost use Rattle.isp_format.specs.Header.{header_bytes};
+ghost use Rattle.isp_format.specs.Ranges.{page_bytes, page_of, puts};
+ghost use Rattle.isp_page.specs.Calls.{AddsNone, FailsBy, FileShape, MiniTransaction, most_changed, with_page};
+ghost use Rattle.isp_page.specs.HeadValues.{header_in};
+ghost use Rattle.isp_page.specs.InMemory.{MemState, PassesInMemory, new_pages};
+ghost use Rattle.isp_page.specs.declared.fault.StoreFault.TheVariants.{Print};
+
+use crate::fault::StoreFault;
+use crate::header::Head;
+use crate::heads::set_head;
+use crate::page::{PAGE_BYTES, Page, PageNo};
+use crate::pages::Pages;
+use std::alloc::{AllocError, Global};
+use std::marker::Model;
+
+/// How many pages a mini-transaction may change.
+const MOST_CHANGED: usize = 48;
+
+/// How many bytes a header has.
+const HEADER_BYTES: usize = 32;
+
+/// How many pages every file has in use, which is the first page never used.
+const FIRST_FRESH: u32 = 16;
+
+/// Where page 0 has the number of the first page never used.
+const FRESH_PLACE: usize = 72;
+
+/// A store of pages in memory. A stop leaves nothing of it; its one fault is a line that passes the room for printed
+/// bytes.
+#[derive(Drop)]
+pub struct MemPages {
+    bytes: Vec<u8>,
+    pages: u32,
+    fanout: u32,
+    is_begun: bool,
+    changed: Vec<u32>,
+    printed: Vec<u8>,
+    room: usize,
+    print_faults: u64,
+}
+
+impl Model for MemPages {
+    ghost Value = { MemState };
+
+    ghost view = { λ m. record {
+      bytes = m.bytes.items;
+      shape = record { pages = m.pages; fanout = m.fanout };
+      mini = record { is_begun = m.is_begun; changed = m.changed.items };
+      printed = m.printed.items;
+      room = m.room;
+      print_faults = m.print_faults;
+    } };
+
+    ghost invariant = { λ m. (length m.bytes.items ≡ m.pages * page_bytes) × IsPages m.pages × IsFanout m.fanout
+        × (length m.printed.items + m.room ≤ vec_capacity m.printed) × (most_changed ≤ vec_capacity m.changed) };
+}
+
+impl MemPages {
+    /// The pages of an empty file with these numbers, and memory for `room` printed bytes.
+    pub fn new(alloc: Global, pages: u32, fanout: u32, room: usize) -> Result<MemPages, AllocError>
+        requires pages { IsPages pages }
+        requires fanout { IsFanout fanout }
+        ensures new { IfOk result (λ m. m ≡ new_pages pages fanout room m.bytes) }
+        ensures contents { IfOk result (λ m. image_of m.bytes ≡ empty_contents) }
+    {
+        Ok(MemPages {
+            bytes: empty_bytes(alloc, pages)?,
+            pages,
+            fanout,
+            is_begun: false,
+            changed: Vec::with_capacity(alloc, MOST_CHANGED)?,
+            printed: Vec::with_capacity(alloc, room)?,
+            room,
+            print_faults: 0,
+        })
+    }
+
+    /// The bytes that were told so far.
+    pub fn printed(&self) -> &[u8]
+        ensures { result.now ≡ self.now.printed }
+    {
+        &self.printed
+    }
+
+    fn tell_kept(&mut self, line: &[u8]) -> Result<(), StoreFault>
+        ensures done { is_ok result ≡ nat_le (length line.now) self.old.room }
+        ensures whole { OnOk result (self.new ≡ record self.old {
+          printed = self.old.printed ++ line.now;
+          room = self.old.room - length line.now;
+        }) }
+        ensures refused { OnErr result (self.new ≡ record self.old { print_faults = counted self.old.print_faults }) }
+        ensures cause { FailsBy Print self.old.print_faults self.new.print_faults result }
+    {
+        if line.len() > self.room {
+            self.print_faults = self.print_faults.saturating_add(1);
+            return Err(StoreFault::Print);
+        }
+        self.room -= line.len();
+        match self.printed.extend_from_slice(line) {
+            Ok(()) => Ok(()),
+            // The room for these bytes was taken at `new`.
+            Err(_) => unreachable!(),
+        }
+    }
+}
+
+// Puts the bytes over those that stand there.
+fn put_over(bytes: &mut Vec<u8>, at: usize, piece: &[u8])
+    requires { at + length piece.now ≤ length bytes.old.items }
+    ensures size { length bytes.new.items ≡ length bytes.old.items }
+    ensures put { (place : ℕ) → image_of bytes.new.items place ≡ put (image_of bytes.old.items) at piece.now place }
+{
+    bytes[at..at + piece.len()].copy_from_slice(piece);
+}
+
+// Adds the page to those that were changed, unless it is one of them.
+fn note(changed: &mut Vec<u32>, page: u32)
+    requires { length (with_page page changed.old.items) ≤ vec_capacity changed.old }
+    ensures noted { changed.new.items ≡ with_page page changed.old.items }
+    ensures capacity { vec_capacity changed.old ≤ vec_capacity changed.new }
+{
+    if changed.contains(&page) {
+        return;
+    }
+    match changed.push(page) {
+        Ok(()) => {}
+        // There is room for it.
+        Err(_) => unreachable!(),
+    }
+}
+
+// The kind of one of the pages that every file has.
+fn first_kind(page: u32) -> u8
+    ensures { result ≡ first_kind page }
+{
+    match page {
+        0 => 1,
+        1 => 2,
+        _ => 3,
+    }
+}
+
+// The header of one of the pages that every file has.
+fn first_head(page: u32) -> Head
+    ensures { header_in result ≡ first_header page }
+{
+    Head {
+        kind: first_kind(page),
+        level: 0,
+        count: 0,
+        owner: 0,
+        next: PageNo(0),
+        prev: PageNo(0),
+        ssn: 0,
+        own: PageNo(page),
+        used: 0,
+    }
+}
+
+// Puts the header of one of the pages that every file has.
+fn put_first_header(bytes: &mut Vec<u8>, page: u32)
+    requires { page * page_bytes + page_bytes ≤ length bytes.old.items }
+    ensures size { length bytes.new.items ≡ length bytes.old.items }
+    ensures put { (place : ℕ) → image_of bytes.new.items place
+        ≡ put (image_of bytes.old.items) (page * page_bytes) (header_bytes (first_header page)) place }
+{
+    let mut first = Page {
+        bytes: [0; PAGE_BYTES],
+    };
+    set_head(&mut first, &first_head(page));
+    put_over(
+        bytes,
+        page as usize * PAGE_BYTES,
+        &first.bytes[..HEADER_BYTES],
+    );
+}
+
+// The bytes of all pages of an empty file.
+fn empty_bytes(alloc: Global, pages: u32) -> Result<Vec<u8>, AllocError>
+    requires { IsPages pages }
+    ensures size { IfOk result (λ bytes. length bytes.items ≡ pages * page_bytes) }
+    ensures contents { IfOk result (λ bytes. (place : ℕ) → image_of bytes.items place ≡ empty_contents place) }
+{
+    let mut bytes = vec![in alloc; 0u8; pages as usize * PAGE_BYTES]?;
+    for page in 0..FIRST_FRESH {
+        put_first_header(&mut bytes, page);
+    }
+    put_over(&mut bytes, FRESH_PLACE, &[0, 0, 0, FIRST_FRESH as u8]);
+    Ok(bytes)
+}
+
+impl Pages for MemPages {
+    ghost contents = { λ m. image_of m.bytes };
+
+    ghost told = { λ m. Some m.printed };
+
+    ghost may_leave = { λ m left. ⊥ };
+
+    ghost clock = { λ m. 0 };
+
+    ghost left_since = { λ m t left said. ⊥ };
+
+    ghost shape = { λ m. m.shape };
+
+    ghost mini = { λ m. m.mini };
+
+    ghost dirty = { λ m. 0 };
+
+    ghost disk_faults = { λ m. 0 };
+
+    ghost print_faults = { λ m. m.print_faults };
+
+    fn pages(&self) -> u32 {
+        self.pages
+    }
+
+    fn fanout(&self) -> u32 {
+        self.fanout
+    }
+
+    fn begin(&mut self) {
+        self.is_begun = true;
+        self.changed.clear();
+    }
+
+    fn read(&mut self, p: PageNo, into: &mut Page) -> Result<(), StoreFault> {
+        let at = p.0 as usize * PAGE_BYTES;
+        into.bytes.copy_from_slice(&self.bytes[at..at + PAGE_BYTES]);
+        Ok(())
+    }
+
+    fn change(&mut self, p: PageNo, at: u16, bytes: &[u8]) -> Result<(), StoreFault> {
+        note(&mut self.changed, p.0);
+        let place = p.0 as usize * PAGE_BYTES + at as usize;
+        put_over(&mut self.bytes, place, bytes);
+        Ok(())
+    }
+
+    fn finish(&mut self) -> Result<(), StoreFault> {
+        self.is_begun = false;
+        self.changed.clear();
+        Ok(())
+    }
+
+    fn flush(&mut self) -> Result<(), StoreFault> {
+        Ok(())
+    }
+
+    fn clean_some(&mut self) -> Result<u32, StoreFault> {
+        Ok(0)
+    }
+
+    fn tell(&mut self, line: &[u8]) -> Result<(), StoreFault>
+        ensures done { is_ok result ≡ nat_le (length line.now) self.old.room }
+        ensures whole { OnOk result (self.new ≡ record self.old {
+          printed = self.old.printed ++ line.now;
+          room = self.old.room - length line.now;
+        }) }
+        ensures refused { OnErr result (self.new ≡ record self.old { print_faults = counted self.old.print_faults }) }
+        ensures told { Prints (Some self.old.printed) line.now (Some self.new.printed) result }
+        ensures contents { IsSome (Some self.old.printed) → image_of self.new.bytes ≡ image_of self.old.bytes }
+        ensures mini { self.new.mini ≡ self.old.mini }
+        ensures dirty { ◌≡◌ {A = ℕ} 0 0 }
+        ensures stops { IsSome (Some self.old.printed) → AddsNone (λ left. ⊥) (λ left. ⊥) }
+        ensures time { IsSome (Some self.old.printed) → PassesInMemory line.now self.old self.new }
+        ensures shape { self.new.shape ≡ self.old.shape }
+        ensures disk { ◌≡◌ {A = ℕ} 0 0 }
+        ensures cause { FailsBy Print self.old.print_faults self.new.print_faults result }
+    {
+        self.tell_kept(line)
+    }
+}
