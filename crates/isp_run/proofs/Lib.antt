@@ -1,4 +1,3 @@
-pub mod FirstRowLaws
 mod HistoryLaws
 pub mod RunLaws
 pub mod SqlLaws

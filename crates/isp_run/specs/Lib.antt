@@ -1,6 +1,5 @@
 pub mod Causes
 pub mod Ending
-pub mod FirstRow
 pub mod History
 pub mod Ran
 pub mod Reading

@@ -25,9 +25,13 @@ pub struct History {
 }
 
 impl Model for History {
+    ghost use Rattle.isp_geom.specs.contracts.geometry.Geometry as e;
     ghost use Rattle.isp_plain.specs.Alone.{State};
+    ghost use Rattle.std.specs.Coded.{codes};
 
     ghost Value = { State };
+
+    ghost coded = { Prim.hlevel (codes, e.the_row.coded) };
 
     ghost use Rattle.isp_run.specs.History.{state_of, IsHistory};
 

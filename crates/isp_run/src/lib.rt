@@ -11,7 +11,6 @@ ghost use Rattle.isp_run.specs.Words.{is_run};
 
 mod history;
 mod input;
-mod laws;
 mod play;
 mod read;
 mod statement;
@@ -20,7 +19,6 @@ mod stop;
 mod words;
 
 use isp_disk::{Source, World};
-pub use laws::law_first_row;
 use play::play;
 use read::{Found, find_script};
 pub use status::Status;
