@@ -13,6 +13,7 @@ use Rattle.isp_plain.specs.declared.statement.Statement.{Statement}
 use Rattle.isp_plain.specs.declared.statement.Statement.TheVariants.{Create, Insert, Select, Update, Delete, Begin, Commit, Rollback, Refused}
 use Rattle.isp_plain.specs.Does.{Change, does, place_of, changed_in, changed_at, insert, insert_or, update, delete, outgrows, select_reply, table_named}
 use Rattle.isp_plain.specs.Entries.{first_duplicate}
+use Rattle.isp_plain.specs.Laws.{RefusesWithText}
 use Rattle.isp_plain.specs.Tables.{Table}
 use Rattle.isp_plain.specs.Texts.{HasText, has_text, refusals}
 use Rattle.isp_plain.proofs.TextLaws.{IsOwn}
@@ -21,11 +22,6 @@ use Rattle.isp_plain.proofs.TextLaws.{IsOwn}
 abbrev pub RefusesOwn : Statement → Type 0
 RefusesOwn (Refused number at) = ((number == 1114) ≡ false) × ((number == 1213) ≡ false)
 RefusesOwn _ = Unit {0}
-
--- where the statement is a refusal, its number has a text
-abbrev pub RefusesWithText : Statement → Type 0
-RefusesWithText (Refused number at) = has_text number ≡ true
-RefusesWithText _ = Unit {0}
 
 known : (has_text 1062 ≡ true) × (has_text 1146 ≡ true) × (has_text 9011 ≡ true)
 unfolding refusals

@@ -164,20 +164,20 @@ fixed_lines = (refl, refl, refl)
 pub end_line : is_one_line end_text ≡ true
 end_line = fixed_lines.1
 
-text_of_line : (refusal : Refusal) (at : ℤ) → is_one_line refusal.words ≡ true → is_one_line (text_of refusal at) ≡ true
-text_of_line refusal at is = one_line-append refusal.words _ is (either refusal.has_place (signed_decimal at) [] (signed_line at) refl)
+text_of_line : (refusal : Refusal) (place : List ℕ) → is_one_line place ≡ true → is_one_line refusal.words ≡ true → is_one_line (text_of refusal place) ≡ true
+text_of_line refusal place line is = one_line-append refusal.words _ is (either refusal.has_place place [] line refl)
 
-among_line : (these : List Refusal) (number : ℕ) (at : ℤ) → list_all (λ refusal. is_one_line refusal.words) these ≡ true → is_one_line (text_among these number at) ≡ true
-among_line [] number at is = refl
-among_line (refusal ∷ others) number at is =
+among_line : (these : List Refusal) (number : ℕ) (place : List ℕ) → is_one_line place ≡ true → list_all (λ refusal. is_one_line refusal.words) these ≡ true → is_one_line (text_among these number place) ≡ true
+among_line [] number place line is = refl
+among_line (refusal ∷ others) number place line is =
     let parts = and_parts (is_one_line refusal.words) (list_all (λ refusal. is_one_line refusal.words) others) is in
-    either (refusal.number == number) (text_of refusal at) (text_among others number at) (text_of_line refusal at parts.0) (among_line others number at parts.1)
+    either (refusal.number == number) (text_of refusal place) (text_among others number place) (text_of_line refusal place line parts.0) (among_line others number place line parts.1)
 
 pub reply_line : (r : Reply) → is_lined_reply r ≡ true → is_one_line (reply_text r) ≡ true
 reply_line reply.Ok is = fixed_lines.0
 reply_line (reply.Count n) is = count_line n
 reply_line (reply.Rows rows) is = one_line-append (count_text (length rows)) _ (count_line (length rows)) (rows_line rows is)
-reply_line (reply.Err number at) is = among_line refusals number at fixed_lines.2
+reply_line (reply.Err number at) is = among_line refusals number (signed_decimal at) (signed_line at) fixed_lines.2
 reply_line reply.End is = fixed_lines.1
 
 -- a reply that tables give, not a full file, a deadlock or the end of a session
@@ -251,9 +251,9 @@ same_number : (n m : ℕ) → (n == m) ≡ true → n ≡ m
 same_number n m is = grind (arith, nat_tests)
 
 -- the refusal of a number that is neither a full file's nor a deadlock's
-refusal_own : (session number code : ℕ) (at : ℤ) (refusal : Refusal) → (code == 1114) ≡ false → (code == 1213) ≡ false → (refusal.number == code) ≡ true →
-    own_or_given refusal ≡ true → is_taken session number (text_of refusal at) ≡ false
-refusal_own session number code at refusal not_full not_deadlock same is =
+refusal_own : (session number code : ℕ) (place : List ℕ) (refusal : Refusal) → (code == 1114) ≡ false → (code == 1213) ≡ false → (refusal.number == code) ≡ true →
+    own_or_given refusal ≡ true → is_taken session number (text_of refusal place) ≡ false
+refusal_own session number code place refusal not_full not_deadlock same is =
     let full : (refusal.number == 1114) ≡ false = ap (λ n. n == 1114) (same_number refusal.number code same) ∙ not_full in
     let deadlock : (refusal.number == 1213) ≡ false = ap (λ n. n == 1213) (same_number refusal.number code same) ∙ not_deadlock in
     words_own session number refusal.words _
@@ -264,18 +264,18 @@ among_at : (session number : ℕ) (found : Bool) (xs ys : List ℕ) → (found �
 among_at session number true xs ys first later = first refl
 among_at session number false xs ys first later = later
 
-among_own : (session number code : ℕ) (at : ℤ) (these : List Refusal) → (code == 1114) ≡ false → (code == 1213) ≡ false → list_all own_or_given these ≡ true →
-    is_taken session number (text_among these code at) ≡ false
-among_own session number code at [] not_full not_deadlock is = nothing_own session number
-among_own session number code at (refusal ∷ others) not_full not_deadlock is =
+among_own : (session number code : ℕ) (place : List ℕ) (these : List Refusal) → (code == 1114) ≡ false → (code == 1213) ≡ false → list_all own_or_given these ≡ true →
+    is_taken session number (text_among these code place) ≡ false
+among_own session number code place [] not_full not_deadlock is = nothing_own session number
+among_own session number code place (refusal ∷ others) not_full not_deadlock is =
     let parts = and_parts (own_or_given refusal) (list_all own_or_given others) is in
-    among_at session number (refusal.number == code) (text_of refusal at) (text_among others code at)
-    (λ same. refusal_own session number code at refusal not_full not_deadlock same parts.0)
-    (among_own session number code at others not_full not_deadlock parts.1)
+    among_at session number (refusal.number == code) (text_of refusal place) (text_among others code place)
+    (λ same. refusal_own session number code place refusal not_full not_deadlock same parts.0)
+    (among_own session number code place others not_full not_deadlock parts.1)
 
 pub own_not_given : (session number : ℕ) (r : Reply) → IsOwn r → is_given (answer_with session number (reply_text r)) ≡ false
 own_not_given session number reply.Ok own = fixed_own session number
 own_not_given session number (reply.Count n) own = count_own session number n
 own_not_given session number (reply.Rows rows) own = counted_own session number (length rows) (flat_map (λ row. 32 ∷ row_text row) rows)
-own_not_given session number (reply.Err code at) own = among_own session number code at refusals own.0 own.1 all_own_or_given
+own_not_given session number (reply.Err code at) own = among_own session number code (signed_decimal at) refusals own.0 own.1 all_own_or_given
 own_not_given session number reply.End own = absurd own

@@ -3,6 +3,7 @@ pub mod Answers
 pub mod Conditions
 pub mod Does
 pub mod Entries
+pub mod Laws
 pub mod Lined
 pub mod RowBytes
 pub mod Script

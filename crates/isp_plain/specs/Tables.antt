@@ -8,3 +8,7 @@ pub record Table : Type 0 where
   pub name : List ℕ
   pub schema : Schema
   pub rows : List (ℤ × Row)
+
+-- its name and its columns
+abbrev pub definition_of : Table → List ℕ × Schema
+definition_of table = (table.name, table.schema)

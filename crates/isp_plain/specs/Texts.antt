@@ -70,17 +70,18 @@ refusals =
     ∷ fixed 9016 (codes "ERR 9016 HY000 key cannot be set")
     ∷ []
 
--- its text; `at` is the key or position
-abbrev pub text_of : Refusal → ℤ → List ℕ
-text_of refusal at = refusal.words ++ (if refusal.has_place then signed_decimal at else [])
+-- its text, where the key or position is spelled so
+abbrev pub text_of : Refusal → List ℕ → List ℕ
+text_of refusal place = refusal.words ++ (if refusal.has_place then place else [])
 
 -- the text of the refusal of that number among these
-abbrev pub text_among : List Refusal → ℕ → ℤ → List ℕ
-text_among [] number at = []
-text_among (refusal ∷ others) number at = if refusal.number == number then text_of refusal at else text_among others number at
+abbrev pub text_among : List Refusal → ℕ → List ℕ → List ℕ
+text_among [] number place = []
+text_among (refusal ∷ others) number place = if refusal.number == number then text_of refusal place else text_among others number place
 
+-- the text of the refusal of that number; `at` is the key or position
 abbrev pub refusal_text : ℕ → ℤ → List ℕ
-refusal_text number at = text_among refusals number at
+refusal_text number at = text_among refusals number (signed_decimal at)
 
 -- there is a refusal of that number
 abbrev pub has_text : ℕ → Bool

@@ -16,11 +16,13 @@ mod select;
 mod size;
 mod statement;
 mod table;
+#[cfg(test)]
+mod tests;
 mod update;
 mod value;
 
 pub use defined::Defined;
-pub use laws::law_spelled_once;
+pub use laws::{law_replies_are_lines, law_replies_have_texts, law_spelled_once};
 pub use plain::Plain;
 pub use script::{Place, Script, Session, Sessions, Texts, Word, Words};
 pub use size::row_size;

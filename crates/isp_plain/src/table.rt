@@ -4,7 +4,7 @@ ghost use Rattle.std.specs.Prelude.{◌≡◌, [], IfOk, OnOk, OnErr};
 ghost use Rattle.std.specs.Map.{values_of};
 ghost use Rattle.std.specs.Str.{bytes_eq};
 ghost use Rattle.isp_plain.specs.Does.{insert, update, delete, selected};
-ghost use Rattle.isp_plain.specs.Tables.{Table};
+ghost use Rattle.isp_plain.specs.Tables.{Table, definition_of};
 
 use crate::defined::Defined;
 use crate::entries::{Entries, add_all};
@@ -36,7 +36,7 @@ impl Model for PlainTable {
 }
 
 impl Defined for PlainTable {
-    ghost definition = { λ t. (t.name, t.schema) };
+    ghost definition = { definition_of };
 
     fn name(&self) -> &Name {
         &self.name

@@ -1,3 +1,4 @@
 pub mod FirstRowLaws
-pub mod GrammarLaws
+mod HistoryLaws
 pub mod RunLaws
+pub mod SqlLaws

@@ -4,7 +4,7 @@ use Rattle.std.specs.List.{flat_map}
 use Rattle.isp_plain.specs.declared.script.Script.{Script}
 use Rattle.isp_plain.specs.Alone.{run_answers}
 use Rattle.isp_plain.specs.Spelling.{line_of}
-use Rattle.isp_sql.specs.Meaning.{narrow}
+use Rattle.isp_run.specs.Sql.{sql}
 
 unfoldable pub create_points : List ℕ
 create_points = codes "CREATE TABLE p (id BIGINT PRIMARY KEY, g GEOMETRY NOT NULL SRID 0, SPATIAL INDEX (g))"
@@ -27,4 +27,4 @@ unfoldable pub first_lines : List ℕ
 first_lines = codes "0 0.1 OK\n0 0.2 OK 5 rows\n1 1.1 OK 2 rows (1,POINT(0 0)) (5,POINT(5 5))\n2 1.2 END\n"
 
 abbrev pub FirstRow : Type 0
-FirstRow = flat_map line_of (run_answers narrow first_script) ≡ first_lines
+FirstRow = flat_map line_of (run_answers sql first_script) ≡ first_lines

@@ -1,6 +1,8 @@
 pub mod Causes
 pub mod Ending
 pub mod FirstRow
-pub mod Grammar
+pub mod History
 pub mod Ran
+pub mod Reading
+pub mod Sql
 pub mod Words

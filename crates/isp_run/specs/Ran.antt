@@ -1,24 +1,17 @@
 -- What a run that was done has printed: the lines of answers, and nothing else. They fit the script, and their
 -- transactions, done again one by one on plain tables, from none, give these answers.
-use Rattle.std.specs.Prelude.{◌≡◌, ℕ, false, List, [], ◌++◌, All, Option, Some, None}
+use Rattle.std.specs.Prelude.{◌≡◌, ℕ, List, [], ◌++◌, All, Option, Some}
 use Rattle.std.specs.List.{flat_map}
 use Rattle.isp_plain.specs.declared.script.Script.{Script}
-use Rattle.isp_plain.specs.Alone.{turn_of}
-use Rattle.isp_plain.specs.Answers.{Answer, is_full, is_deadlock}
+use Rattle.isp_plain.specs.Alone.{IsPlain}
+use Rattle.isp_plain.specs.Answers.{Answer}
 use Rattle.isp_plain.specs.Serial.{Serial}
-use Rattle.isp_plain.specs.Spelling.{line_of, IsShown}
+use Rattle.isp_plain.specs.Spelling.{line_of}
 use Rattle.isp_plain.specs.Tables.{Table}
-use Rattle.isp_sql.specs.Meaning.{narrow}
+use Rattle.isp_script.specs.Grammar.{IsScript}
+use Rattle.isp_run.specs.Sql.{sql}
 use Rattle.isp_run.specs.declared.status.Status.{Status}
 use Rattle.isp_run.specs.declared.status.Status.TheVariants.{Done, Usage, BadScript, ReadFault, PrintFault, OutOfMemory}
-
--- An answer as this program gives them for now: a line shows it, its turn is 0 in the setup and the statement's number
--- in a session, and it is neither a full file's nor a deadlock's, since there is no file and no lock.
-pub record IsPlain (answer : Answer) : Type 0 where
-  pub shown : IsShown answer
-  pub turn : answer.turn ≡ turn_of answer.session answer.number
-  pub not_full : is_full answer ≡ false
-  pub not_deadlock : is_deadlock answer ≡ false
 
 -- what was printed before, and now, with the script that was run
 pub record Ran (script : Script) (before : List ℕ) (now : Option (List ℕ)) : Type 0 where
@@ -26,12 +19,11 @@ pub record Ran (script : Script) (before : List ℕ) (now : Option (List ℕ)) :
   pub told : now ≡ Some (before ++ flat_map line_of answers)
   pub plain : All IsPlain answers
   pub after : List Table
-  pub serial : Serial narrow script [] answers after
+  pub serial : Serial sql script [] answers after
 
--- the same of the script that bytes are, where they are one
-abbrev pub RanOf : Option Script → List ℕ → Option (List ℕ) → Type 0
-RanOf (Some script) before now = Ran script before now
-RanOf None before now = ⊥
+-- the same of the script that the bytes are
+abbrev pub RanOf : List ℕ → List ℕ → Option (List ℕ) → Type 0
+RanOf bytes before now = (script : Script) × IsScript bytes script × Ran script before now
 
 -- the script was read and is in the grammar
 abbrev pub IsRead : Status → Type 0

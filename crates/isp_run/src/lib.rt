@@ -1,25 +1,28 @@
 //! The top call: the words and the script are read, the script is run, and its answers are printed.
 #![tactic(auto)]
 
-ghost use Rattle.std.specs.Prelude.{◌≡◌, ◌↔◌, ℕ, false, true, List, [], None, Some, IfSome, IsSome, map, string_bytes};
+ghost use Rattle.std.specs.Prelude.{◌≡◌, ◌↔◌, ℕ, false, true, List, [], Some, IfSome, map, string_bytes};
 ghost use Rattle.isp_disk.specs.Outside.{Rose};
-ghost use Rattle.isp_sql.specs.Reading.{script_of};
+ghost use Rattle.isp_script.specs.BadLines.{IsBadLine};
 ghost use Rattle.isp_run.specs.Causes.{KeepsDisk, Takes};
 ghost use Rattle.isp_run.specs.Ran.{IsDue, IsQuiet, IsRead, RanOf};
+ghost use Rattle.isp_run.specs.Reading.{HasScript};
 ghost use Rattle.isp_run.specs.Words.{is_run};
 
+mod history;
 mod input;
 mod laws;
 mod play;
 mod read;
+mod statement;
 mod status;
 mod stop;
 mod words;
 
 use isp_disk::{Source, World};
-pub use laws::{law_first_row, law_read_is_script, law_script_is_read};
+pub use laws::law_first_row;
 use play::play;
-use read::read_script;
+use read::{Found, find_script};
 pub use status::Status;
 use std::alloc::Global;
 use stop::Stop;
@@ -40,19 +43,19 @@ pub fn run<S: Source, W: World>(
     ensures usage { (result.0 ≡ Status.Usage) ↔ (is_run (map string_bytes words.now) ≡ false) }
 
     // The headline: what was printed is the lines of answers to the script, and these are serial.
-    ensures serial { result.0 ≡ Status.Done → IfSome (S.left script.old) (λ bytes. IfSome (W.printed world) (λ before. RanOf (script_of bytes) before (W.printed result.1))) }
+    ensures serial { result.0 ≡ Status.Done → IfSome (S.left script.old) (λ bytes. IfSome (W.printed world) (λ before. RanOf bytes before (W.printed result.1))) }
     ensures end { result.0 ≡ Status.Done → IfSome (S.left script.new) (λ rest. rest ≡ []) }
 
     ensures taken { Takes 16777217 (S.left script.old) (S.left script.new) }
 
     // Each other status has its cause.
-    ensures bad { (line : ℕ) → result.0 ≡ Status.BadScript line → (line ≡ 0) × IfSome (S.left script.old) (λ bytes. script_of bytes ≡ None) }
-    ensures good { IsRead result.0 → IfSome (S.left script.old) (λ bytes. IsSome (script_of bytes)) }
+    ensures bad { (line : ℕ) → result.0 ≡ Status.BadScript line → IfSome (S.left script.old) (λ bytes. IsBadLine bytes line) }
+    ensures good { IsRead result.0 → IfSome (S.left script.old) (λ bytes. HasScript bytes) }
     ensures read_fault { result.0 ≡ Status.ReadFault → Rose (S.faults script.old) (S.faults script.new) }
     ensures print_fault { result.0 ≡ Status.PrintFault → Rose (W.print_faults world) (W.print_faults result.1) }
 
     // Good words and a good script, with no fault of the source or the world, are done, or find no memory.
-    ensures complete { (bytes : List ℕ) → S.left script.old ≡ Some bytes → IsSome (script_of bytes) → is_run (map string_bytes words.now) ≡ true
+    ensures complete { (bytes : List ℕ) → S.left script.old ≡ Some bytes → HasScript bytes → is_run (map string_bytes words.now) ≡ true
         → ¬ Rose (S.faults script.old) (S.faults script.new) → ¬ Rose (W.print_faults world) (W.print_faults result.1) → IsDue result.0 }
 
     // Nothing is printed before the script was read.
@@ -65,13 +68,13 @@ pub fn run<S: Source, W: World>(
     if !is_run(words) {
         return (Status::Usage, world);
     }
-    match read_script(alloc, script) {
-        Ok(Some(read)) => match play(alloc, &read, &mut world) {
+    match find_script(alloc, script) {
+        Ok(Found::Script(read)) => match play(alloc, &read, &mut world) {
             Ok(()) => (Status::Done, world),
             Err(Stop::Fault) => (Status::PrintFault, world),
             Err(Stop::Memory) => (Status::OutOfMemory, world),
         },
-        Ok(None) => (Status::BadScript { line: 0 }, world),
+        Ok(Found::Bad { line }) => (Status::BadScript { line }, world),
         Err(Stop::Fault) => (Status::ReadFault, world),
         Err(Stop::Memory) => (Status::OutOfMemory, world),
     }

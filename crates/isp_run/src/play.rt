@@ -3,53 +3,25 @@
 ghost use Rattle.std.specs.Prelude.{◌≡◌, ◌+◌, ◌<◌, ◌^◌, false, length, OnOk, IfOk};
 ghost use Rattle.std.specs.List.{flat_map};
 ghost use Rattle.isp_disk.specs.Outside.{told_behind};
-ghost use Rattle.isp_plain.specs.Alone.{answer_to, answer_with, answers_to, run_answers, session_answers, sessions_answers, tables_after, turn_of, AreSmall};
-ghost use Rattle.isp_plain.specs.Serial.{done, place_at};
+ghost use Rattle.isp_plain.specs.Alone.{after_session, after_text, after_texts, answer_to, answer_with, answers_to, run_answers, session_answers, sessions_answers, turn_of, AreSmall};
 ghost use Rattle.isp_plain.specs.Spelling.{line_of};
 ghost use Rattle.isp_plain.specs.Texts.{reply_text};
-ghost use Rattle.isp_sql.specs.Meaning.{narrow};
 ghost use Rattle.isp_run.specs.Causes.{HasStops, KeepsDisk};
+ghost use Rattle.isp_run.specs.Sql.{sql};
 
+use crate::history::History;
 use crate::stop::Stop;
 use isp_disk::World;
 use isp_mbr::Bytes;
-use isp_plain::{Place, Plain, Reply, Script, Session};
-use isp_sql::bind;
+use isp_plain::{Reply, Script, Session};
 use isp_text::answer_line;
 use std::alloc::{AllocError, Global};
-
-/// Where a statement of the session stands. No transaction is built yet.
-fn place_of(session: u32) -> Place
-    ensures { result ≡ place_at session false }
-{
-    if session == 0 {
-        Place::Setup
-    } else {
-        Place::Session
-    }
-}
 
 // The setup has turn 0 throughout, and a session's turn is the statement's number.
 fn turn_of(session: u32, number: u64) -> u64
     ensures { result ≡ turn_of session number }
 {
     if session == 0 { 0 } else { number }
-}
-
-// What the text does on the tables.
-#[tactic(auto, unfolding(isp_sql::specs::Meaning::narrow))]
-fn do_text(
-    alloc: Global,
-    tables: &mut Plain,
-    session: u32,
-    text: &Bytes,
-) -> Result<Reply, AllocError>
-    ensures reply { IfOk result (λ reply. reply ≡ (done narrow tables.old session false text.now).reply) }
-    ensures tables { OnOk result (tables.new ≡ (done narrow tables.old session false text.now).tables) }
-{
-    let statement = bind(alloc, tables, place_of(session), text.as_slice())?;
-    let reply = tables.run(&statement)?;
-    Ok(reply)
 }
 
 fn print<W: World>(world: &mut W, bytes: &[u8]) -> Result<(), Stop>
@@ -88,18 +60,18 @@ fn print_answer<W: World>(
 // Answers one text of the session.
 fn answer<W: World>(
     alloc: Global,
-    tables: &mut Plain,
+    history: &mut History,
     world: &mut W,
     session: u32,
     number: u64,
     text: &Bytes,
 ) -> Result<(), Stop>
-    ensures told { OnOk result (W.printed world.new ≡ told_behind (W.printed world.old) (line_of (answer_to narrow session number text.now tables.old))) }
-    ensures tables { OnOk result (tables.new ≡ (done narrow tables.old session false text.now).tables) }
+    ensures told { OnOk result (W.printed world.new ≡ told_behind (W.printed world.old) (line_of (answer_to sql session number text.now history.old))) }
+    ensures state { OnOk result (history.new ≡ after_text sql session text.now history.old) }
     ensures cause { HasStops (W.print_faults world.old) (W.print_faults world.new) result }
     ensures disk { KeepsDisk (W.image world.old) (W.disk_faults world.old) (W.image world.new) (W.disk_faults world.new) }
 {
-    let reply = do_text(alloc, tables, session, text)?;
+    let reply = history.answer(session, text)?;
     print_answer(alloc, world, session, number, &reply)?;
     Ok(())
 }
@@ -107,18 +79,18 @@ fn answer<W: World>(
 // Answers the session's texts, one after another.
 fn answer_texts<W: World>(
     alloc: Global,
-    tables: &mut Plain,
+    history: &mut History,
     world: &mut W,
     session: u32,
     texts: &[Bytes],
 ) -> Result<(), Stop>
-    ensures told { OnOk result (W.printed world.new ≡ told_behind (W.printed world.old) (flat_map line_of (answers_to narrow session 1 texts.now tables.old))) }
-    ensures tables { OnOk result (tables.new ≡ tables_after narrow session texts.now tables.old) }
+    ensures told { OnOk result (W.printed world.new ≡ told_behind (W.printed world.old) (flat_map line_of (answers_to sql session 1 texts.now history.old))) }
+    ensures state { OnOk result (history.new ≡ after_texts sql session texts.now history.old) }
     ensures cause { HasStops (W.print_faults world.old) (W.print_faults world.new) result }
     ensures disk { KeepsDisk (W.image world.old) (W.disk_faults world.old) (W.image world.new) (W.disk_faults world.new) }
 {
     for (i, text) in texts.iter().enumerate() {
-        answer(alloc, tables, world, session, i as u64 + 1, text)?;
+        answer(alloc, history, world, session, i as u64 + 1, text)?;
     }
     Ok(())
 }
@@ -134,51 +106,52 @@ fn end_number(texts: &[Bytes]) -> u64
 // Answers a session, and tells its end.
 fn answer_session<W: World>(
     alloc: Global,
-    tables: &mut Plain,
+    history: &mut History,
     world: &mut W,
     session: &Session,
 ) -> Result<(), Stop>
-    ensures told { OnOk result (W.printed world.new ≡ told_behind (W.printed world.old) (flat_map line_of (session_answers narrow session.now tables.old))) }
-    ensures tables { OnOk result (tables.new ≡ tables_after narrow session.now.number session.now.texts tables.old) }
+    ensures told { OnOk result (W.printed world.new ≡ told_behind (W.printed world.old) (flat_map line_of (session_answers sql session.now history.old))) }
+    ensures state { OnOk result (history.new ≡ after_session sql session.now history.old) }
     ensures small { OnOk result ((session.now.number < 2 ^ 64) × (length session.now.texts + 1 < 2 ^ 64)) }
     ensures cause { HasStops (W.print_faults world.old) (W.print_faults world.new) result }
     ensures disk { KeepsDisk (W.image world.old) (W.disk_faults world.old) (W.image world.new) (W.disk_faults world.new) }
 {
     let number = session.number;
     let texts = session.texts.as_slice();
-    answer_texts(alloc, tables, world, number, texts)?;
+    answer_texts(alloc, history, world, number, texts)?;
+    history.roll_back()?;
     print_answer(alloc, world, number, end_number(texts), &Reply::End)?;
     Ok(())
 }
 
 fn answer_sessions<W: World>(
     alloc: Global,
-    tables: &mut Plain,
+    history: &mut History,
     world: &mut W,
     sessions: &[Session],
 ) -> Result<(), Stop>
-    ensures told { OnOk result (W.printed world.new ≡ told_behind (W.printed world.old) (flat_map line_of (sessions_answers narrow sessions.now tables.old))) }
+    ensures told { OnOk result (W.printed world.new ≡ told_behind (W.printed world.old) (flat_map line_of (sessions_answers sql sessions.now history.old))) }
     ensures small { OnOk result (AreSmall sessions.now) }
     ensures cause { HasStops (W.print_faults world.old) (W.print_faults world.new) result }
     ensures disk { KeepsDisk (W.image world.old) (W.disk_faults world.old) (W.image world.new) (W.disk_faults world.new) }
 {
     for session in sessions {
-        answer_session(alloc, tables, world, session)?;
+        answer_session(alloc, history, world, session)?;
     }
     Ok(())
 }
 
 /// Answers the setup and then the sessions, from no tables, and prints each answer's line.
 pub fn play<W: World>(alloc: Global, script: &Script, world: &mut W) -> Result<(), Stop>
-    ensures told { OnOk result (W.printed world.new ≡ told_behind (W.printed world.old) (flat_map line_of (run_answers narrow script.now))) }
+    ensures told { OnOk result (W.printed world.new ≡ told_behind (W.printed world.old) (flat_map line_of (run_answers sql script.now))) }
     ensures small { OnOk result ((length script.now.setup + 1 < 2 ^ 64) × AreSmall script.now.sessions) }
     ensures cause { HasStops (W.print_faults world.old) (W.print_faults world.new) result }
     ensures disk { KeepsDisk (W.image world.old) (W.disk_faults world.old) (W.image world.new) (W.disk_faults world.new) }
 {
-    let mut tables = Plain::new(alloc);
+    let mut history = History::new(alloc);
     let setup = script.setup.as_slice();
     let _end = end_number(setup);
-    answer_texts(alloc, &mut tables, world, 0, setup)?;
-    answer_sessions(alloc, &mut tables, world, script.sessions.as_slice())?;
+    answer_texts(alloc, &mut history, world, 0, setup)?;
+    answer_sessions(alloc, &mut history, world, script.sessions.as_slice())?;
     Ok(())
 }

@@ -1,24 +1,42 @@
 //! The script of a source.
 
-ghost use Rattle.std.specs.Prelude.{◌≡◌, [], IfOk, IfSome, IsSome};
-ghost use Rattle.isp_sql.specs.Reading.{script_of};
+ghost use Rattle.std.specs.Prelude.{◌≡◌, [], IfOk, IfSome};
 ghost use Rattle.isp_run.specs.Causes.{HasStops, Takes};
+ghost use Rattle.isp_run.specs.Reading.{IsFound, IsGood};
 
 use crate::input::read_bytes;
 use crate::stop::Stop;
 use isp_disk::Source;
 use isp_plain::Script;
-use isp_sql::script_of;
-use std::alloc::Global;
+use isp_script::{ScriptError, read_script};
+use std::alloc::{AllocError, Global};
 
-/// The script that the source gives, which is read to its end: None where its bytes are no script.
-pub fn read_script<S: Source>(alloc: Global, source: &mut S) -> Result<Option<Script>, Stop>
-    ensures script { IfOk result (λ script. IfSome (S.left source.old) (λ bytes. script ≡ script_of bytes)) }
-    ensures end { IfOk result (λ script. IsSome script → IfSome (S.left source.new) (λ rest. rest ≡ [])) }
+/// What bytes are: a script, or none, and then their first bad line, which is counted from 1, or 0 where there are too
+/// many bytes.
+#[derive(Debug, Drop)]
+pub enum Found {
+    Script(Script),
+    Bad { line: u64 },
+}
+
+/// What the bytes of the source are, which is read to its end.
+pub fn find_script<S: Source>(alloc: Global, source: &mut S) -> Result<Found, Stop>
+    ensures found { IfOk result (λ found. IfSome (S.left source.old) (λ bytes. IsFound bytes found)) }
+    ensures end { IfOk result (λ found. IsGood found → IfSome (S.left source.new) (λ rest. rest ≡ [])) }
     ensures taken { Takes 16777217 (S.left source.old) (S.left source.new) }
     ensures cause { HasStops (S.faults source.old) (S.faults source.new) result }
 {
     let bytes = read_bytes(alloc, source)?;
-    let script = script_of(alloc, bytes.as_slice())?;
-    Ok(script)
+    let found = found_in(alloc, bytes.as_slice())?;
+    Ok(found)
+}
+
+fn found_in(alloc: Global, bytes: &[u8]) -> Result<Found, AllocError>
+    ensures { IfOk result (λ found. IsFound bytes.now found) }
+{
+    match read_script(alloc, bytes) {
+        Ok(script) => Ok(Found::Script(script)),
+        Err(ScriptError::Bad { line }) => Ok(Found::Bad { line }),
+        Err(ScriptError::OutOfMemory) => Err(AllocError),
+    }
 }

@@ -10,7 +10,8 @@ pub enum Status {
     Done,
     /// The words are no command.
     Usage,
-    /// The script is outside its grammar; which line it is is not told yet, and the line is 0.
+    /// The script is outside its grammar. `line`, counted from 1, is the first line up to which the lines begin no
+    /// script, or the one behind the last where only more lines are missing; it is 0 where the bytes are too many.
     BadScript { line: u64 },
     /// The script could not be read to its end.
     ReadFault,

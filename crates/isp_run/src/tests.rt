@@ -79,49 +79,67 @@ fn first_row(rt: HostRuntime) -> Result<(), Fail> {
 }
 
 #[test]
-fn statuses(rt: HostRuntime) -> Result<(), Fail> {
+fn words(rt: HostRuntime) -> Result<(), Fail> {
     let alloc = rt.alloc();
-    let bad = Status::BadScript { line: 0 };
-    let none: &[u64] = &[];
-    let rows: [(&[&str], &[u8], &[u64], &[u64], Status); 12] = [
-        (&["f", "run"], FIRST_ROW, none, none, Status::Done),
-        (&["f"], FIRST_ROW, none, none, Status::Usage),
-        (&["run", "f"], FIRST_ROW, none, none, Status::Usage),
-        (&["f", "run", "x"], FIRST_ROW, none, none, Status::Usage),
-        (&[], FIRST_ROW, &[1], &[1], Status::Usage),
-        (&["f", "run"], b"", none, none, bad),
+    let rows: [(&[&str], &[u64], Status); 5] = [
+        (&["f", "run"], &[], Status::Done),
+        (&["f"], &[], Status::Usage),
+        (&["run", "f"], &[], Status::Usage),
+        (&["f", "run", "x"], &[], Status::Usage),
+        (&[], &[1], Status::Usage),
+    ];
+    for (words, fails, wanted) in rows {
+        let mut source = MemSource::new(alloc, FIRST_ROW, fails)?;
+        let (status, _printed) = ran(alloc, words, &mut source, fails)?;
+        assert_eq!(rt; status, wanted);
+    }
+    Ok(())
+}
+
+#[test]
+fn scripts(rt: HostRuntime) -> Result<(), Fail> {
+    let alloc = rt.alloc();
+    let rows: [(&[u8], Status); 5] = [
+        (b"", Status::BadScript { line: 1 }),
         (
-            &["f", "run"],
             b"setup\nsession 1\nschedule\n1\nend\n",
-            none,
-            none,
-            bad,
+            Status::BadScript { line: 4 },
         ),
         (
-            &["f", "run"],
-            b"setup\nsession 17\nschedule\nend\n",
-            none,
-            none,
-            bad,
+            b"setup\nsession 1\nINSERT INTO p VALUES (1,'PO",
+            Status::BadScript { line: 3 },
         ),
         (
-            &["f", "run"],
+            b"setup\n# a\nsession 1\nFLY;\n\nschedule\n",
+            Status::BadScript { line: 7 },
+        ),
+        (
             b"setup\r\n# x;\r\n \t\r\nschedule\r\nend\r\n\n",
-            none,
-            none,
             Status::Done,
         ),
-        (&["f", "run"], FIRST_ROW, &[1], none, Status::ReadFault),
-        (&["f", "run"], FIRST_ROW, &[2], none, Status::ReadFault),
-        (&["f", "run"], FIRST_ROW, none, &[1], Status::PrintFault),
     ];
-    for (words, script, source_fails, world_fails, wanted) in rows {
-        let mut source = MemSource::new(alloc, script, source_fails)?;
-        let (status, printed) = ran(alloc, words, &mut source, world_fails)?;
+    for (script, wanted) in rows {
+        let mut source = MemSource::new(alloc, script, &[])?;
+        let (status, printed) = ran(alloc, &["f", "run"], &mut source, &[])?;
         assert_eq!(rt; status, wanted);
-        if status != Status::Done {
-            assert_eq!(rt; printed.len(), 0);
-        }
+        assert_eq!(rt; printed.len(), 0);
+    }
+    Ok(())
+}
+
+#[test]
+fn faults(rt: HostRuntime) -> Result<(), Fail> {
+    let alloc = rt.alloc();
+    let rows: [(&[u64], &[u64], Status); 3] = [
+        (&[1], &[], Status::ReadFault),
+        (&[2], &[], Status::ReadFault),
+        (&[], &[1], Status::PrintFault),
+    ];
+    for (source_fails, world_fails, wanted) in rows {
+        let mut source = MemSource::new(alloc, FIRST_ROW, source_fails)?;
+        let (status, printed) = ran(alloc, &["f", "run"], &mut source, world_fails)?;
+        assert_eq!(rt; status, wanted);
+        assert_eq!(rt; printed.len(), 0);
     }
     Ok(())
 }

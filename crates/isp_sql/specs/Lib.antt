@@ -1,4 +1,5 @@
 pub mod Following
+pub mod Grammar
 pub mod Reading
 pub mod Scanning
 pub mod Tokens

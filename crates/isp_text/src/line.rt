@@ -5,7 +5,8 @@ ghost use Rattle.std.specs.Fmt.{decimal};
 ghost use Rattle.isp_plain.specs.Spelling.{line_of};
 ghost use Rattle.isp_plain.specs.Texts.{reply_text};
 
-use crate::reply::{push, push_decimal, push_reply};
+use crate::bytes::{push, push_decimal};
+use crate::reply::push_reply;
 use isp_plain::Reply;
 use std::alloc::{AllocError, Global};
 

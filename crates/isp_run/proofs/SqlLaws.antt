@@ -1,0 +1,7 @@
+-- What of the language the theorem of serial answers asks.
+use Rattle.isp_plain.specs.Alone.{IsFaithful}
+use Rattle.isp_sql.proofs.NarrowLaws.{narrow_is_faithful}
+use Rattle.isp_run.specs.Sql.{sql}
+
+pub sql_is_faithful : IsFaithful sql
+sql_is_faithful = narrow_is_faithful
