@@ -1,9 +1,7 @@
 -- Tokens that are written for a value are read as it, production by production.
-use Rattle.std.proofs.Common.{◌≡◌, ◌∙◌, ℕ, Bool, true, false, ◌⊎◌, inl, inr, List, [], ◌∷◌, drop, Option, Some, None, refl, sym, ap, subst}
-use Rattle.std.specs.Str.{bytes_eq}
+use Rattle.std.proofs.Common.{◌≡◌, ◌∙◌, ℕ, Bool, true, false, inl, inr, List, [], ◌∷◌, drop, Option, Some, None, refl, ap}
 use Rattle.isp_mbr.specs.declared.Test.{Test}
 use Rattle.isp_plain.specs.declared.statement.Op.{Op}
-use Rattle.isp_plain.specs.declared.statement.Op.TheVariants as ops
 use Rattle.isp_sql.specs.declared.members.Going.TheVariants as going
 use Rattle.isp_sql.specs.declared.parsed.Literal.{Literal}
 use Rattle.isp_sql.specs.declared.parsed.Literal.TheVariants as literals
@@ -19,11 +17,10 @@ use Rattle.isp_sql.specs.declared.token.Symbol.TheVariants.{Open, Close, Comma, 
 use Rattle.isp_sql.specs.declared.token.Token.{Token}
 use Rattle.isp_sql.specs.declared.token.Token.TheVariants as token
 use Rattle.isp_sql.specs.declared.words.Word.TheVariants as words
-use Rattle.isp_sql.specs.Grammar.{Phrase, ◌⨾◌, optional, one, each, list, word, symbol, name, digits, zero_digit, enclosed, signed, plain, geometry, literal, row, called, atom, condition, not_null, kind, column, index, key_column, set, shown, statement}
-use Rattle.isp_sql.specs.Reading.{◌>>=◌, Outcome, begins_word, begins_symbol, begins_name, begins_digits, begins_column, word_at, symbol_at, name_at, text_at, digits_at, zero_at, op_at, equal_at, test_at, more_at, list_at, plain_at, system_at, geometry_at, literal_at, compared_at, column_first_at, column_second_at, arguments_at, spatial_at, atom_at, where_at, not_null_at, key_at, big_int_at, var_char_at, geo_at, kind_at, column_at, index_at, definition_at, create_at, row_at, insert_at, shown_at, select_at, set_at, update_at, delete_at, transaction_at, change_at, statement_at, alone, parsed_in}
+use Rattle.isp_sql.specs.Grammar.{Phrase, ◌⨾◌, optional, each, list, word, symbol, name, digits, zero_digit, enclosed, signed, plain, geometry, literal, row, called, atom, condition, not_null, kind, column, index, key_column, set, shown, statement}
+use Rattle.isp_sql.specs.Reading.{Outcome, begins_word, begins_symbol, begins_name, begins_column, word_at, symbol_at, name_at, text_at, digits_at, zero_at, op_at, equal_at, test_at, more_at, list_at, plain_at, system_at, geometry_at, literal_at, compared_at, column_first_at, column_second_at, arguments_at, spatial_at, atom_at, where_at, not_null_at, key_at, big_int_at, var_char_at, geo_at, kind_at, column_at, index_at, definition_at, create_at, row_at, insert_at, shown_at, select_at, set_at, update_at, delete_at, transaction_at, change_at, statement_at, parsed_in}
 use Rattle.isp_sql.specs.Tokens.{is_symbol}
 use Rattle.isp_sql.specs.Words.{is_word, exchanged}
-use Rattle.isp_sql.proofs.SoundReading.{string, comparison}
 use Rattle.isp_sql.proofs.SoundForms.{twice}
 use Rattle.isp_sql.proofs.CompleteReading.{if_true, if_false, bind_is, word_again, symbol_again, name_again, text_again, digits_again, op_again, zero_again, equal_again, test_again, Shrinks, one_shrinks, both_shrink, either_shrinks, empty_shrinks, called_shrinks, IsComplete, more_again, list_again, list_shrinks}
 
@@ -265,9 +262,9 @@ definition_again table key columns indexes tokens mid left m c =
     let stops = columns_stop indexes m.2.0 mid left m.2.2 c in
     bind_is (key_at tokens) (key, m.0) _ (key_again _ _ _ m.1)
     ∙ (bind_is (more_at going.Column column_at m.0) (columns, m.2.0) _
-      (more_again column NoNot column_at going.Column column_again column_shrinks comma_begins column_next columns m.0 m.2.0 m.2.1 stops.0 stops.1)
+    (more_again column NoNot column_at going.Column column_again column_shrinks comma_begins column_next columns m.0 m.2.0 m.2.1 stops.0 stops.1)
     ∙ bind_is (more_at going.Comma index_at m.2.0) (indexes, mid) _
-      (more_again index Any index_at going.Comma index_again index_shrinks (λ ts left e. tt) (comma_next index) indexes m.2.0 mid m.2.2 (ap (begins_symbol Comma) c) tt))
+    (more_again index Any index_at going.Comma index_again index_shrinks (λ ts left e. tt) (comma_next index) indexes m.2.0 mid m.2.2 (ap (begins_symbol Comma) c) tt))
 
 -- ---- statements
 

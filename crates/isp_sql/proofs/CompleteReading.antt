@@ -1,5 +1,5 @@
 -- Tokens that are written for a value are read as it.
-use Rattle.std.proofs.Common.{◌≡◌, ◌∙◌, ℕ, zero, suc, ◌+◌, ◌≤◌, Bool, true, false, cond, ◌⊎◌, inl, inr, List, [], ◌∷◌, length, drop, Option, Some, None, refl, sym, ap, subst, arith}
+use Rattle.std.proofs.Common.{◌≡◌, ◌∙◌, ℕ, zero, suc, ◌≤◌, Bool, true, false, cond, inl, inr, List, [], ◌∷◌, length, drop, Option, Some, refl, sym, ap, subst, arith}
 use denote.Enum.Bare.{true_same}
 use Rattle.isp_sql.specs.contracts.words.Word.{the_type as word_type}
 use Rattle.isp_sql.specs.contracts.token.Symbol.{the_type as symbol_type}
@@ -9,12 +9,11 @@ use Rattle.isp_plain.specs.declared.statement.Op.TheVariants as ops
 use Rattle.isp_sql.specs.declared.members.Going.{Going}
 use Rattle.isp_sql.specs.declared.members.Going.TheVariants as going
 use Rattle.isp_sql.specs.declared.token.Symbol.{Symbol}
-use Rattle.isp_sql.specs.declared.token.Symbol.TheVariants.{Comma}
 use Rattle.isp_sql.specs.declared.token.Token.{Token}
 use Rattle.isp_sql.specs.declared.token.Token.TheVariants as token
 use Rattle.isp_sql.specs.declared.words.Word.{Word}
 use Rattle.isp_sql.specs.Grammar.{Phrase, ◌⨾◌, ◌∣◌, empty, one, word, symbol, name, digits, zero_digit, each, list, called}
-use Rattle.isp_sql.specs.Reading.{◌>>=◌, Outcome, begins_word, begins_symbol, word_at, symbol_at, name_at, text_at, digits_at, zero_at, op_at, equal_at, tested, test_at, goes_on, others_at, more_at, list_at}
+use Rattle.isp_sql.specs.Reading.{◌>>=◌, Outcome, word_at, symbol_at, name_at, text_at, digits_at, zero_at, op_at, equal_at, tested, test_at, goes_on, others_at, more_at, list_at}
 use Rattle.isp_sql.specs.Tokens.{is_symbol}
 use Rattle.isp_sql.specs.Words.{is_word}
 use Rattle.isp_sql.proofs.SoundReading.{string, comparison, separator, wrong}
@@ -119,33 +118,33 @@ enough P g shrinks (x ∷ xs) tokens left m =
     omega arith
 
 module _ {X : Type 0} (P : X → Phrase) (Follow : List Token → Type 0) (item : List Token → Outcome X) (g : Going) (again : IsComplete P Follow item) (shrinks : (x : X) → Shrinks (P x))
-  (behind : (tokens left : List Token) → separator g tokens left → Follow tokens)
-  (next : (x : X) (tokens mid left : List Token) → separator g tokens mid → P x mid left → goes_on g tokens ≡ true)
+    (behind : (tokens left : List Token) → separator g tokens left → Follow tokens)
+    (next : (x : X) (tokens mid left : List Token) → separator g tokens mid → P x mid left → goes_on g tokens ≡ true)
   where
-  follows : (xs : List X) (tokens left : List Token) → each (separator g) P xs tokens left → Follow left → Follow tokens
-  follows [] tokens left e f = subst Follow (sym e) f
-  follows (x ∷ xs) tokens left m f = behind tokens m.0 m.1
+    follows : (xs : List X) (tokens left : List Token) → each (separator g) P xs tokens left → Follow left → Follow tokens
+    follows [] tokens left e f = subst Follow (sym e) f
+    follows (x ∷ xs) tokens left m f = behind tokens m.0 m.1
 
-  others_again : (n : ℕ) (xs : List X) (tokens left : List Token) → length xs ≤ n → each (separator g) P xs tokens left → goes_on g left ≡ false → Follow left → others_at g item n tokens ≡ Some (xs, left)
-  others_again zero [] tokens left le e stop f = ap (λ (ts : List Token). Some ([], ts)) e
-  others_again zero (x ∷ xs) tokens left le m stop f = absurd (omega arith)
-  others_again (suc n) [] tokens left le e stop f = if_false (goes_on g tokens) _ _ (ap (goes_on g) e ∙ stop) ∙ ap (λ (ts : List Token). Some ([], ts)) e
-  others_again (suc n) (x ∷ xs) tokens left le m stop f =
-      let few : length xs ≤ n = omega arith in
-      if_true (goes_on g tokens) _ _ (next x tokens m.0 m.2.0 m.1 m.2.1)
-      ∙ (bind_is (item (drop 1 tokens)) (x, m.2.0) _ (ap item (separator_one g _ _ m.1).0 ∙ again x m.0 m.2.0 m.2.1 (follows xs m.2.0 left m.2.2 f))
-      ∙ bind_is (others_at g item n m.2.0) (xs, left) _ (others_again n xs m.2.0 left few m.2.2 stop f))
+    others_again : (n : ℕ) (xs : List X) (tokens left : List Token) → length xs ≤ n → each (separator g) P xs tokens left → goes_on g left ≡ false → Follow left → others_at g item n tokens ≡ Some (xs, left)
+    others_again zero [] tokens left le e stop f = ap (λ (ts : List Token). Some ([], ts)) e
+    others_again zero (x ∷ xs) tokens left le m stop f = absurd (omega arith)
+    others_again (suc n) [] tokens left le e stop f = if_false (goes_on g tokens) _ _ (ap (goes_on g) e ∙ stop) ∙ ap (λ (ts : List Token). Some ([], ts)) e
+    others_again (suc n) (x ∷ xs) tokens left le m stop f =
+        let few : length xs ≤ n = omega arith in
+        if_true (goes_on g tokens) _ _ (next x tokens m.0 m.2.0 m.1 m.2.1)
+        ∙ (bind_is (item (drop 1 tokens)) (x, m.2.0) _ (ap item (separator_one g _ _ m.1).0 ∙ again x m.0 m.2.0 m.2.1 (follows xs m.2.0 left m.2.2 f))
+        ∙ bind_is (others_at g item n m.2.0) (xs, left) _ (others_again n xs m.2.0 left few m.2.2 stop f))
 
-  pub more_again : (xs : List X) (tokens left : List Token) → each (separator g) P xs tokens left → goes_on g left ≡ false → Follow left → more_at g item tokens ≡ Some (xs, left)
-  unfolding more_at
-  more_again xs tokens left m stop f = others_again (length tokens) xs tokens left (enough P g shrinks xs tokens left m) m stop f
+    pub more_again : (xs : List X) (tokens left : List Token) → each (separator g) P xs tokens left → goes_on g left ≡ false → Follow left → more_at g item tokens ≡ Some (xs, left)
+    unfolding more_at
+    more_again xs tokens left m stop f = others_again (length tokens) xs tokens left (enough P g shrinks xs tokens left m) m stop f
 
-  pub list_again : (xs : List X) (tokens left : List Token) → list (separator g) P xs tokens left → goes_on g left ≡ false → Follow left → list_at g item tokens ≡ Some (xs, left)
-  unfolding list_at
-  list_again [] tokens left m stop f = absurd m
-  list_again (x ∷ xs) tokens left m stop f =
-      bind_is (item tokens) (x, m.0) _ (again x tokens m.0 m.1 (follows xs m.0 left m.2 f))
-      ∙ bind_is (more_at g item m.0) (xs, left) _ (more_again xs m.0 left m.2 stop f)
+    pub list_again : (xs : List X) (tokens left : List Token) → list (separator g) P xs tokens left → goes_on g left ≡ false → Follow left → list_at g item tokens ≡ Some (xs, left)
+    unfolding list_at
+    list_again [] tokens left m stop f = absurd m
+    list_again (x ∷ xs) tokens left m stop f =
+        bind_is (item tokens) (x, m.0) _ (again x tokens m.0 m.1 (follows xs m.0 left m.2 f))
+        ∙ bind_is (more_at g item m.0) (xs, left) _ (more_again xs m.0 left m.2 stop f)
 
 pub list_shrinks : {X : Type 0} (P : X → Phrase) (g : Going) → ((x : X) → Shrinks (P x)) → (xs : List X) → Shrinks (list (separator g) P xs)
 list_shrinks P g shrinks [] tokens left m = absurd m

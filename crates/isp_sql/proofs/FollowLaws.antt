@@ -1,5 +1,5 @@
 -- Reading members one after another, as a loop does.
-use Rattle.std.proofs.Common.{◌≡◌, ◌∙◌, ℕ, suc, ◌-◌, ◌+◌, ◌<◌, List, [], ◌∷◌, ◌++◌, length, drop, true, Option, Some, None, refl, sym, ap, append_assoc, arith}
+use Rattle.std.proofs.Common.{◌≡◌, ◌∙◌, ℕ, suc, ◌-◌, ◌+◌, ◌<◌, List, [], ◌∷◌, ◌++◌, length, drop, true, Some, None, refl, sym, ap, append_assoc, arith}
 use Rattle.isp_sql.specs.declared.members.Going.{Going}
 use Rattle.isp_sql.specs.declared.token.Token.{Token}
 use Rattle.isp_sql.specs.Following.{with_front}
@@ -23,5 +23,5 @@ module _ {X : Type 0} where
       let k : most - i ≡ suc (most - (i + 1)) = omega arith in
       let read : item (drop 1 tokens) ≡ Some (n, after) = ap item (sym b) ∙ is in
       let one : with_front front (others_at going item (most - i) tokens) ≡ with_front (front ++ n ∷ []) (others_at going item (most - (i + 1)) after) =
-            rw (k, h, read) (regroup front n (others_at going item (most - (i + 1)) after)) in
+      rw (k, h, read) (regroup front n (others_at going item (most - (i + 1)) after)) in
       rw e (sym one ∙ so_far)

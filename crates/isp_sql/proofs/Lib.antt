@@ -5,3 +5,5 @@ pub mod SoundForms
 pub mod CompleteReading
 pub mod CompleteForms
 pub mod TokenLaws
+pub mod TokensAgain
+pub mod StatementLaws

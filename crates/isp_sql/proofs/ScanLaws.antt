@@ -19,6 +19,6 @@ pub turn : (tokens more : List Token) (begun : Begun) (next : Next) (b : ℕ) (t
     → text ≡ b ∷ bytes → more ≡ tokens ++ option_to_list next.whole → onto tokens (scan begun text) ≡ all → onto more (scan next.begun bytes) ≡ all
 turn tokens more begun next b text bytes all is front pushed so_far =
     let one : scan begun text ≡ onto (option_to_list next.whole) (scan next.begun bytes) =
-          ap (scan begun) front ∙ ap (λ (s : Next). onto (option_to_list s.whole) (scan s.begun bytes)) (sym is) in
+    ap (scan begun) front ∙ ap (λ (s : Next). onto (option_to_list s.whole) (scan s.begun bytes)) (sym is) in
     ap (λ (ts : List Token). onto ts (scan next.begun bytes)) pushed
     ∙ (sym (onto_both tokens (option_to_list next.whole) (scan next.begun bytes)) ∙ (ap (onto tokens) (sym one) ∙ so_far))

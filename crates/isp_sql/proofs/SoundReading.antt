@@ -1,10 +1,9 @@
 -- What is read of tokens is what they are written for.
-use Rattle.std.proofs.Common.{◌≡◌, ◌∙◌, ℕ, zero, suc, ◌-◌, Bool, true, false, cond, ◌⊎◌, inl, inr, List, [], ◌∷◌, length, drop, Option, Some, None, refl, sym, ap, subst, rules}
+use Rattle.std.proofs.Common.{◌≡◌, ℕ, zero, suc, Bool, true, false, cond, ◌⊎◌, inl, inr, List, [], ◌∷◌, length, drop, Option, Some, None, refl, ap, subst, rules}
 use denote.Enum.Bare.{same_true}
 use Rattle.isp_sql.specs.contracts.words.Word.{the_type as word_type}
 use Rattle.isp_sql.specs.contracts.token.Symbol.{the_type as symbol_type}
 use Rattle.isp_mbr.specs.declared.Test.{Test}
-use Rattle.isp_mbr.specs.declared.Test.TheVariants as tests
 use Rattle.isp_plain.specs.declared.statement.Op.{Op}
 use Rattle.isp_plain.specs.declared.statement.Op.TheVariants as ops
 use Rattle.isp_sql.specs.declared.members.Going.{Going}
@@ -16,7 +15,7 @@ use Rattle.isp_sql.specs.declared.token.Token.TheVariants as token
 use Rattle.isp_sql.specs.declared.words.Word.{Word}
 use Rattle.isp_sql.specs.declared.words.Word.TheVariants as words
 use Rattle.isp_sql.specs.Grammar.{Phrase, one, word, symbol, name, digits, zero_digit, each, list, called}
-use Rattle.isp_sql.specs.Reading.{◌>>=◌, Outcome, begins_word, begins_symbol, begins_name, begins_column, word_at, symbol_at, name_at, text_at, digits_at, zero_at, op_at, equal_at, tested, test_at, goes_on, others_at, more_at, list_at}
+use Rattle.isp_sql.specs.Reading.{◌>>=◌, Outcome, begins_word, begins_symbol, begins_column, word_at, symbol_at, name_at, text_at, digits_at, zero_at, op_at, equal_at, tested, test_at, goes_on, others_at, more_at, list_at}
 use Rattle.isp_sql.specs.Tokens.{is_symbol}
 use Rattle.isp_sql.specs.Words.{is_word, test_of}
 use Rattle.std.specs.Str.{bytes_eq}

@@ -1,11 +1,9 @@
 -- What is scanned of bytes is the tokens that they are, and the tokens that bytes are is what is scanned.
-use Rattle.std.proofs.Common.{◌≡◌, ◌∙◌, ℕ, ◌==◌, ◌&&◌, ◌||◌, not, nat_lt, Bool, true, false, cond, ◌⊎◌, inl, inr, List, [], ◌∷◌, ◌++◌, Option, Some, None, refl, sym, ap, subst, append_assoc, append-nil, arith}
-use Rattle.std.specs.Char.{is_ascii_digit, is_ascii_alphabetic}
+use Rattle.std.proofs.Common.{◌≡◌, ◌∙◌, ℕ, ◌==◌, ◌&&◌, ◌||◌, not, Bool, true, false, cond, ◌⊎◌, inl, inr, List, [], ◌∷◌, ◌++◌, Option, Some, None, refl, sym, ap, subst, append_assoc, append-nil, arith}
+use Rattle.std.specs.Char.{is_ascii_digit}
 use Rattle.std.specs.List.{list_all}
 use Rattle.std.specs.Option.{option_to_list}
-use Rattle.std.proofs.lemmas.Bool.{and_parts}
 use Rattle.std.proofs.lemmas.Bool.Decides.{nat_tests}
-use Rattle.std.proofs.lemmas.List.Folds.{list_all-append}
 use Rattle.isp_plain.specs.declared.statement.Op.{Op}
 use Rattle.isp_plain.specs.declared.statement.Op.TheVariants.{Eq, Ne, Lt, Le, Gt, Ge}
 use Rattle.isp_sql.specs.declared.token.Begun.{Begun}
@@ -16,18 +14,17 @@ use Rattle.isp_sql.specs.declared.token.Symbol.TheVariants as symbol
 use Rattle.isp_sql.specs.declared.token.Token.{Token}
 use Rattle.isp_sql.specs.declared.token.Token.TheVariants as token
 use Rattle.isp_sql.specs.declared.words.Word.{Word}
-use Rattle.isp_sql.specs.Scanning.{symbol_of, op_of, longer, begin, begun_by, begun_as, goes_on, ends, step, in_text, in_op, ended, onto, scan, tokens_of}
-use Rattle.isp_sql.specs.Tokens.{is_blank, is_letter, is_name_byte, is_control, is_worded, is_number, quoted, IsOp, symbol_byte, Spells, lengthens, Ends, AreBlanks, AreTokens, known, worded}
+use Rattle.isp_sql.specs.Scanning.{symbol_of, op_of, longer, begin, begun_by, begun_as, goes_on, ends, step, in_op, ended, onto, scan, tokens_of}
+use Rattle.isp_sql.specs.Tokens.{is_blank, is_letter, is_name_byte, is_control, quoted, symbol_byte, Spells, lengthens, Ends, AreTokens, known, worded}
 use Rattle.isp_sql.specs.Words.{word_of}
-use Rattle.isp_sql.proofs.SoundReading.{chosen, never, wrong}
-use Rattle.isp_sql.proofs.CompleteReading.{if_true, if_false}
+use Rattle.isp_sql.proofs.SoundReading.{never}
+use Rattle.isp_sql.proofs.CompleteReading.{if_false}
 
-is_it : (b c : ℕ) → (b == c) ≡ true → b ≡ c
+pub is_it : (b c : ℕ) → (b == c) ≡ true → b ≡ c
 is_it b c h = grind (arith, nat_tests)
 
-
 -- the bytes go on with what has begun, and make it the token
-abbrev Continues : Begun → List ℕ → Token → Type 0
+abbrev pub Continues : Begun → List ℕ → Token → Type 0
 Continues begun.Nothing more t = ⊥
 Continues (begun.Word w) more t = (list_all is_name_byte more ≡ true) × (t ≡ worded (w ++ more))
 Continues (begun.Digits d) more t = (list_all is_ascii_digit more ≡ true) × (t ≡ token.Digits (d ++ more))
@@ -41,18 +38,18 @@ Continues (begun.Symbol s) more t = (more ≡ []) × (t ≡ token.Symbol s)
 Continues begun.Failed more t = ⊥
 
 -- the bytes are what is left of a token that has begun, and further tokens
-record Goes (begun : Begun) (text : List ℕ) (tokens : List Token) : Type 0 where
-  first : Token
-  others : List Token
-  more : List ℕ
-  rest : List ℕ
-  listed : tokens ≡ first ∷ others
-  parts : text ≡ more ++ rest
-  continues : Continues begun more first
-  ends : Ends first rest
-  tail : AreTokens others rest
+pub record Goes (begun : Begun) (text : List ℕ) (tokens : List Token) : Type 0 where
+  pub first : Token
+  pub others : List Token
+  pub more : List ℕ
+  pub rest : List ℕ
+  pub listed : tokens ≡ first ∷ others
+  pub parts : text ≡ more ++ rest
+  pub continues : Continues begun more first
+  pub ends : Ends first rest
+  pub tail : AreTokens others rest
 
-abbrev Ahead : Begun → List ℕ → List Token → Type 0
+abbrev pub Ahead : Begun → List ℕ → List Token → Type 0
 Ahead begun.Nothing text tokens = AreTokens tokens text
 Ahead (begun.Word w) text tokens = Goes (begun.Word w) text tokens
 Ahead (begun.Digits d) text tokens = Goes (begun.Digits d) text tokens
@@ -94,6 +91,7 @@ symbol_is b s e = at (b == 40) (b == 41) (b == 44) (b == 42) (b == 45) refl refl
   where
     same : (x y : Symbol) → ◌≡◌ {A = Option Symbol} (Some x) (Some y) → x ≡ y
     same x y e = cc
+
     at : (v w x y z : Bool) → (b == 40) ≡ v → (b == 41) ≡ w → (b == 44) ≡ x → (b == 42) ≡ y → (b == 45) ≡ z
         → ◌≡◌ {A = Option Symbol} (cond v (Some symbol.Open) (cond w (Some symbol.Close) (cond x (Some symbol.Comma) (cond y (Some symbol.Star) (cond z (Some symbol.Minus) None))))) (Some s) → b ≡ symbol_byte s
     at true w x y z e f g h k is = is_it b 40 e ∙ ap symbol_byte (same symbol.Open s is)
@@ -108,6 +106,7 @@ op_is b o e = at (b == 61) (b == 60) (b == 62) refl refl refl e
   where
     same : (x y : Op) → ◌≡◌ {A = Option Op} (Some x) (Some y) → x ≡ y
     same x y e = cc
+
     at : (x y z : Bool) → (b == 61) ≡ x → (b == 60) ≡ y → (b == 62) ≡ z → ◌≡◌ {A = Option Op} (cond x (Some Eq) (cond y (Some Lt) (cond z (Some Gt) None))) (Some o) → Begins (begun.Op o) b
     at true y z e f g is = inl (sym (same Eq o is), is_it b 61 e)
     at false true z e f g is = inr (inl (sym (same Lt o is), is_it b 60 f))
@@ -133,6 +132,7 @@ longer_less b o e = at (b == 61) (b == 62) refl refl e
   where
     same : (x y : Op) → ◌≡◌ {A = Option Op} (Some x) (Some y) → x ≡ y
     same x y e = cc
+
     at : (x y : Bool) → (b == 61) ≡ x → (b == 62) ≡ y → ◌≡◌ {A = Option Op} (cond x (Some Le) (cond y (Some Ne) None)) (Some o) → ((b ≡ 61) × (o ≡ Le)) ⊎ ((b ≡ 62) × (o ≡ Ne))
     at true y e f is = inl (is_it b 61 e, sym (same Le o is))
     at false true e f is = inr (is_it b 62 f, sym (same Ne o is))
@@ -143,6 +143,7 @@ longer_greater b o e = at (b == 61) refl e
   where
     same : (x y : Op) → ◌≡◌ {A = Option Op} (Some x) (Some y) → x ≡ y
     same x y e = cc
+
     at : (x : Bool) → (b == 61) ≡ x → ◌≡◌ {A = Option Op} (cond x (Some Ge) None) (Some o) → (b ≡ 61) × (o ≡ Ge)
     at true e is = (is_it b 61 e, sym (same Ge o is))
     at false e is = never o is
@@ -213,10 +214,10 @@ before begun.Failed b text ts i a = absurd a.continues
 
 -- ---- what is scanned is tokens
 
-cons_parts : (b c : ℕ) (xs ys : List ℕ) → b ∷ xs ≡ c ∷ ys → (b ≡ c) × (xs ≡ ys)
+pub cons_parts : (b c : ℕ) (xs ys : List ℕ) → b ∷ xs ≡ c ∷ ys → (b ≡ c) × (xs ≡ ys)
 cons_parts b c xs ys e = (let same : b ≡ c = cc in same, let same : xs ≡ ys = cc in same)
 
-word_lengthens : (o : Option Word) (w : List ℕ) (b : ℕ) → lengthens (known o w) b ≡ is_name_byte b
+pub word_lengthens : (o : Option Word) (w : List ℕ) (b : ℕ) → lengthens (known o w) b ≡ is_name_byte b
 word_lengthens (Some v) w b = refl
 word_lengthens None w b = refl
 
@@ -252,7 +253,7 @@ longer_once Gt l o b c e f = never o (ap (λ (x : Op). longer x c) (sym (longer_
 ends_here : (begun : Begun) (t : Token) (ts : List Token) → Continues begun [] t → t ∷ [] ≡ ts → Goes begun [] ts
 ends_here begun t ts c e = record { first = t; others = []; more = []; rest = []; listed = sym e; parts = refl; continues = c; ends = tt; tail = refl }
 
-some_list : (xs ys : List Token) → ◌≡◌ {A = Option (List Token)} (Some xs) (Some ys) → xs ≡ ys
+pub some_list : (xs ys : List Token) → ◌≡◌ {A = Option (List Token)} (Some xs) (Some ys) → xs ≡ ys
 some_list xs ys e = cc
 
 ended_is : (begun : Begun) (ts : List Token) → ended begun ≡ Some ts → Ahead begun [] ts
@@ -303,17 +304,24 @@ module _ (b : ℕ) (text : List ℕ) (others ts : List Token) where
   text_is s false false h k a e =
       let c = a.continues in
       let written : quoted (b ∷ c.0) ≡ b ∷ quoted c.0 = if_false (b == 39) _ _ h in
-      carried (begun.Text s) (begun.Text (s ++ b ∷ [])) b text others ts a
-      (b ∷ c.0, ap (λ (m : List ℕ). b ∷ m) c.1 ∙ ap (λ (m : List ℕ). m ++ 39 ∷ []) (sym written), ap (λ (x : Bool). not x && list_all (λ b. not (is_control b)) c.0) k ∙ c.2,
-        c.3 ∙ ap token.Text (append_assoc s (b ∷ []) c.0)) e
+      carried (begun.Text s) (begun.Text (s ++ b ∷ [])) b text others ts a (
+        b ∷ c.0,
+        ap (λ (m : List ℕ). b ∷ m) c.1 ∙ ap (λ (m : List ℕ). m ++ 39 ∷ []) (sym written),
+        ap (λ (x : Bool). not x && list_all (λ b. not (is_control b)) c.0) k ∙ c.2,
+        c.3 ∙ ap token.Text (append_assoc s (b ∷ []) c.0),
+      ) e
 
   quote_is : (s : List ℕ) (t : Bool) → (b == 39) ≡ t → Ahead (cond t (begun.Text (s ++ b ∷ [])) (begin b)) text others
       → ts ≡ option_to_list (cond t None (Some (token.Text s))) ++ others → Goes (begun.Quote s) (b ∷ text) ts
   quote_is s true h a e =
       let c = a.continues in
       carried (begun.Quote s) (begun.Text (s ++ b ∷ [])) b text others ts a
-      (inr (c.0, ap (λ (x : ℕ). x ∷ a.more) (is_it b 39 h) ∙ ap (λ (m : List ℕ). 39 ∷ m) c.1, c.2,
-        c.3 ∙ ap token.Text (append_assoc s (b ∷ []) c.0 ∙ ap (λ (x : ℕ). s ++ x ∷ c.0) (is_it b 39 h)))) e
+      (inr (
+        c.0,
+        ap (λ (x : ℕ). x ∷ a.more) (is_it b 39 h) ∙ ap (λ (m : List ℕ). 39 ∷ m) c.1,
+        c.2,
+        c.3 ∙ ap token.Text (append_assoc s (b ∷ []) c.0 ∙ ap (λ (x : ℕ). s ++ x ∷ c.0) (is_it b 39 h)),
+      )) e
   quote_is s false h a e = finished (begun.Quote s) (token.Text s) b text others ts (inl (refl, refl)) h a e
 
   op_goes : (op l : Op) (more : List ℕ) (t : Token) → longer op b ≡ Some l → Continues (begun.Op l) more t → Continues (begun.Op op) (b ∷ more) t

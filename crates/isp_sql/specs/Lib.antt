@@ -1,5 +1,6 @@
 pub mod Following
 pub mod Grammar
+pub mod Laws
 pub mod Reading
 pub mod Scanning
 pub mod Tokens

@@ -9,14 +9,18 @@ mod condition;
 mod cursor;
 mod definition;
 mod error;
+mod laws;
 mod members;
 mod parsed;
 mod statement;
+#[cfg(test)]
+mod tests;
 mod token;
 mod value;
 mod words;
 
 pub use error::SqlError;
+pub use laws::{law_one_meaning, law_read_as_written, law_words_are_known};
 pub use parsed::{
     Literal, LiteralRows, Literals, Names, Parsed, ParsedAtom, ParsedAtoms, ParsedColumn,
     ParsedColumns, ParsedKind, ParsedSet, ParsedSets,

@@ -1,6 +1,9 @@
 //! Statements.
 
-ghost use Rattle.std.specs.Prelude.{◌≡◌, List};
+ghost use Rattle.std.specs.Prelude.{◌≡◌, List, IfOk};
+ghost use Rattle.isp_sql.specs.Grammar.{IsStatement};
+ghost use Rattle.isp_sql.specs.Laws.{IsRead};
+ghost use Rattle.isp_sql.specs.declared.parsed.Parsed.{Parsed};
 ghost use Rattle.isp_sql.specs.Reading.{Reads, Outcome, IsParsed, insert_at, shown_at, select_at, set_at, update_at, delete_at, transaction_at, change_at, statement_at, parsed_in, parsed_of};
 ghost use Rattle.isp_sql.specs.declared.token.Token.{Token};
 
@@ -163,14 +166,26 @@ fn parsed_in(alloc: Global, tokens: &[Token]) -> Result<Parsed, SqlError>
     }
 }
 
-/// The statement that a text is. Syntax comes exactly where the text is not in the grammar; OutOfMemory is want of
-/// memory.
+// The statement that a text is.
 #[tactic(auto, unfolding(crate::specs::Reading::parsed_of))]
-pub fn parse(alloc: Global, text: &[u8]) -> Result<Parsed, SqlError>
-    ensures exact { IsParsed result (parsed_of text.now) }
+fn read(alloc: Global, text: &[u8]) -> Result<Parsed, SqlError>
+    ensures { IsParsed result (parsed_of text.now) }
 {
     let Some(tokens) = tokens_of(alloc, text)? else {
         return Err(SqlError::Syntax);
     };
     parsed_in(alloc, tokens.as_slice())
+}
+
+/// The statement that a text is. Syntax comes exactly where the text is not in the grammar; OutOfMemory is want of
+/// memory.
+pub fn parse(alloc: Global, text: &[u8]) -> Result<Parsed, SqlError>
+    // What is read is what the text says.
+    ensures found { IfOk result (λ p. IsStatement p text.now) }
+    // A text that is a statement is read, unless memory runs out.
+    ensures only { (p : Parsed) → IsStatement p text.now → IsRead result p }
+    // The same by a function that computes.
+    ensures exact { IsParsed result (parsed_of text.now) }
+{
+    read(alloc, text)
 }
