@@ -1,3 +1,6 @@
+mod BoundLaws
 mod EachLaws
+mod LinedTexts
 mod NumberLaws
 mod RowLaws
+pub mod WholeLaws
