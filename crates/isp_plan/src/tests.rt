@@ -568,11 +568,11 @@ fn there_are_sixty_four_tables_at_the_most(rt: HostRuntime) -> Result<(), Fail> 
     Ok(())
 }
 
-// The way to rows, a box as its four numbers.
+// The way to rows, a box as its four numbers x1, y1, x2 and y2.
 #[derive(Clone, Copy)]
 enum Way {
     Key(i64),
-    Tree(u32, Test, [i32; 4]),
+    Tree(u32, Test, i32, i32, i32, i32),
     Scan,
 }
 
@@ -592,17 +592,17 @@ static PATHS: [(usize, &[u8], Way); 15] = [
     (
         0,
         b"DELETE FROM t WHERE MBRWithin(g, ST_GeomFromText('LINESTRING(3 1,1 2)'))",
-        Way::Tree(3, Test::Within, [1, 1, 3, 2]),
+        Way::Tree(3, Test::Within, 1, 1, 3, 2),
     ),
     (
         0,
         b"DELETE FROM t WHERE MBRContains(g, ST_GeomFromText('POINT(1 2)'))",
-        Way::Tree(3, Test::Covers, [1, 2, 1, 2]),
+        Way::Tree(3, Test::Covers, 1, 2, 1, 2),
     ),
     (
         0,
         b"DELETE FROM t WHERE MBRContains(ST_GeomFromText('POINT(1 2)'), g)",
-        Way::Tree(3, Test::Within, [1, 2, 1, 2]),
+        Way::Tree(3, Test::Within, 1, 2, 1, 2),
     ),
     (
         0,
@@ -612,7 +612,7 @@ static PATHS: [(usize, &[u8], Way); 15] = [
     (
         0,
         b"UPDATE t SET n = 1 WHERE MBRWithin(h, ST_GeomFromText('POINT(1 2)')) AND MBREquals(g, ST_GeomFromText('POINT(3 4)')) AND MBRDisjoint(g, ST_GeomFromText('POINT(5 6)'))",
-        Way::Tree(3, Test::Equals, [3, 4, 3, 4]),
+        Way::Tree(3, Test::Equals, 3, 4, 3, 4),
     ),
     (
         0,
@@ -622,7 +622,7 @@ static PATHS: [(usize, &[u8], Way); 15] = [
     (
         3,
         b"SELECT id FROM q WHERE MBRIntersects(b, ST_GeomFromText('POINT(1 2)')) AND MBRIntersects(a, ST_GeomFromText('POINT(3 4)'))",
-        Way::Tree(2, Test::Intersects, [1, 2, 1, 2]),
+        Way::Tree(2, Test::Intersects, 1, 2, 1, 2),
     ),
     (
         1,
@@ -634,7 +634,7 @@ static PATHS: [(usize, &[u8], Way); 15] = [
 fn path_in(way: Way) -> Path {
     match way {
         Way::Key(key) => Path::Key(key),
-        Way::Tree(column, test, [x1, y1, x2, y2]) => Path::Tree {
+        Way::Tree(column, test, x1, y1, x2, y2) => Path::Tree {
             column,
             p: Predicate {
                 test,
