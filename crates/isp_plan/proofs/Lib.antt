@@ -1,5 +1,6 @@
+mod BoundLaws
 mod EachLaws
-pub mod FaithfulLaws
+mod LinedTexts
 mod NumberLaws
 mod RowLaws
-pub mod WrittenLaws
+pub mod WholeLaws

@@ -11,6 +11,7 @@ mod binder;
 mod columns;
 mod creating;
 mod each;
+mod laws;
 mod literal;
 mod meaning;
 mod number;
@@ -20,5 +21,6 @@ mod tests;
 
 pub use access::{Path, path_of};
 pub use binder::bind;
+pub use laws::law_whole_is_faithful;
 pub use meaning::meaning_of;
 pub use refusal::Refusal;

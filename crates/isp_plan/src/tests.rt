@@ -6,7 +6,7 @@ use std::alloc::{AllocError, Global};
 use std::test::Fail;
 
 // The tables that the statements below are bound to.
-const TABLES: [&[u8]; 4] = [
+static TABLES: [&[u8]; 4] = [
     b"CREATE TABLE t (id BIGINT PRIMARY KEY, name VARCHAR(5), n BIGINT, g GEOMETRY NOT NULL SRID 0, h GEOMETRY NOT NULL SRID 0, SPATIAL INDEX (g))",
     b"CREATE TABLE p (id BIGINT PRIMARY KEY, g GEOMETRY NOT NULL SRID 0, SPATIAL INDEX (g))",
     b"CREATE TABLE w (id BIGINT PRIMARY KEY, a VARCHAR(500), b VARCHAR(500))",
@@ -20,7 +20,7 @@ const O: Place = Place::Session;
 const T: Place = Place::InTransaction;
 
 // Where a text stands, the text, and the number and the place of its refusal; a number 0 for a text that is not refused.
-const CASES: [(Place, &[u8], u32, i64); 130] = [
+static CASES: [(Place, &[u8], u32, i64); 130] = [
     // no statement
     (O, b"", 1064, 0),
     (O, b"SELEC * FROM t", 1064, 0),
@@ -482,17 +482,27 @@ fn refusal_in(s: &Statement) -> (u32, i64) {
     }
 }
 
+// The first of the texts that has another answer.
+fn first_wrong(
+    alloc: Global,
+    tables: &[(Name, Schema)],
+    cases: &[(Place, &[u8], u32, i64)],
+) -> Result<Option<usize>, AllocError> {
+    for (i, (place, text, number, at)) in cases.iter().enumerate() {
+        let s = meaning_of(alloc, tables, *place, text)?;
+        if refusal_in(&s) != (*number, *at) {
+            return Ok(Some(i));
+        }
+    }
+    Ok(None)
+}
+
 #[test]
 fn each_text_has_its_first_cause(rt: HostRuntime) -> Result<(), Fail> {
     let alloc = rt.alloc();
     let tables = tables_of(alloc, &TABLES)?;
     assert_eq!(rt; tables.len(), 4);
-    for (place, text, number, at) in CASES {
-        let s = meaning_of(alloc, &tables, place, text)?;
-        let (found, found_at) = refusal_in(&s);
-        assert_eq!(rt; found, number, "the number of {text:?}");
-        assert_eq!(rt; found_at, at, "the place of {text:?}");
-    }
+    assert_eq!(rt; first_wrong(alloc, &tables, &CASES)?, None);
     Ok(())
 }
 
@@ -558,16 +568,16 @@ fn there_are_sixty_four_tables_at_the_most(rt: HostRuntime) -> Result<(), Fail> 
     Ok(())
 }
 
-// The way to rows, a box as its four numbers.
+// The way to rows, a box as its four numbers x1, y1, x2 and y2.
 #[derive(Clone, Copy)]
 enum Way {
     Key(i64),
-    Tree(u32, Test, [i32; 4]),
+    Tree(u32, Test, i32, i32, i32, i32),
     Scan,
 }
 
 // A text, and the way to the rows of its condition in the table that is named.
-const PATHS: [(usize, &[u8], Way); 15] = [
+static PATHS: [(usize, &[u8], Way); 15] = [
     (0, b"SELECT * FROM t", Way::Scan),
     (0, b"SELECT * FROM t WHERE id = 7", Way::Key(7)),
     (0, b"SELECT * FROM t WHERE id = 7 AND id = 8", Way::Key(7)),
@@ -582,17 +592,17 @@ const PATHS: [(usize, &[u8], Way); 15] = [
     (
         0,
         b"DELETE FROM t WHERE MBRWithin(g, ST_GeomFromText('LINESTRING(3 1,1 2)'))",
-        Way::Tree(3, Test::Within, [1, 1, 3, 2]),
+        Way::Tree(3, Test::Within, 1, 1, 3, 2),
     ),
     (
         0,
         b"DELETE FROM t WHERE MBRContains(g, ST_GeomFromText('POINT(1 2)'))",
-        Way::Tree(3, Test::Covers, [1, 2, 1, 2]),
+        Way::Tree(3, Test::Covers, 1, 2, 1, 2),
     ),
     (
         0,
         b"DELETE FROM t WHERE MBRContains(ST_GeomFromText('POINT(1 2)'), g)",
-        Way::Tree(3, Test::Within, [1, 2, 1, 2]),
+        Way::Tree(3, Test::Within, 1, 2, 1, 2),
     ),
     (
         0,
@@ -602,7 +612,7 @@ const PATHS: [(usize, &[u8], Way); 15] = [
     (
         0,
         b"UPDATE t SET n = 1 WHERE MBRWithin(h, ST_GeomFromText('POINT(1 2)')) AND MBREquals(g, ST_GeomFromText('POINT(3 4)')) AND MBRDisjoint(g, ST_GeomFromText('POINT(5 6)'))",
-        Way::Tree(3, Test::Equals, [3, 4, 3, 4]),
+        Way::Tree(3, Test::Equals, 3, 4, 3, 4),
     ),
     (
         0,
@@ -612,7 +622,7 @@ const PATHS: [(usize, &[u8], Way); 15] = [
     (
         3,
         b"SELECT id FROM q WHERE MBRIntersects(b, ST_GeomFromText('POINT(1 2)')) AND MBRIntersects(a, ST_GeomFromText('POINT(3 4)'))",
-        Way::Tree(2, Test::Intersects, [1, 2, 1, 2]),
+        Way::Tree(2, Test::Intersects, 1, 2, 1, 2),
     ),
     (
         1,
@@ -624,7 +634,7 @@ const PATHS: [(usize, &[u8], Way); 15] = [
 fn path_in(way: Way) -> Path {
     match way {
         Way::Key(key) => Path::Key(key),
-        Way::Tree(column, test, [x1, y1, x2, y2]) => Path::Tree {
+        Way::Tree(column, test, x1, y1, x2, y2) => Path::Tree {
             column,
             p: Predicate {
                 test,
@@ -635,18 +645,29 @@ fn path_in(way: Way) -> Path {
     }
 }
 
+// The first of the texts that has another way.
+fn first_astray(
+    alloc: Global,
+    tables: &[(Name, Schema)],
+    cases: &[(usize, &[u8], Way)],
+) -> Result<Option<usize>, AllocError> {
+    for (i, (table, text, way)) in cases.iter().enumerate() {
+        let s = meaning_of(alloc, tables, O, text)?;
+        let Some((_, schema)) = tables.get(*table) else {
+            return Ok(Some(i));
+        };
+        if refusal_in(&s).0 != 0 || path_of(schema, &s) != path_in(*way) {
+            return Ok(Some(i));
+        }
+    }
+    Ok(None)
+}
+
 #[test]
 fn the_first_key_or_test_is_the_way(rt: HostRuntime) -> Result<(), Fail> {
     let alloc = rt.alloc();
     let tables = tables_of(alloc, &TABLES)?;
-    for (table, text, way) in PATHS {
-        let s = meaning_of(alloc, &tables, O, text)?;
-        assert_eq!(rt; refusal_in(&s).0, 0, "the number of {text:?}");
-        assert!(rt;
-            path_of(&tables[table].1, &s) == path_in(way),
-            "the way of {text:?}"
-        );
-    }
+    assert_eq!(rt; first_astray(alloc, &tables, &PATHS)?, None);
     Ok(())
 }
 
