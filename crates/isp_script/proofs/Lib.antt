@@ -1,0 +1,4 @@
+pub mod BadLaws
+pub mod LimitLaws
+pub mod LineLaws
+pub mod ReadingLaws

@@ -1,0 +1,15 @@
+//! Script files: the grammar that says which bytes are a script, and the reader that finds the script or the first bad
+//! line.
+#![tactic(auto)]
+
+mod error;
+mod laws;
+mod lines;
+mod script;
+#[cfg(test)]
+mod tests;
+
+pub use error::ScriptError;
+pub use isp_plain::{Script, Session, Sessions, Texts, Word, Words};
+pub use laws::{law_one_bad_line, law_one_script, law_script_or_bad_line, law_within_limits};
+pub use script::read_script;
