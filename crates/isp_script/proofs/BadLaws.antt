@@ -1,9 +1,8 @@
 -- The line at which reading stops is the first bad one.
-use Rattle.std.proofs.Common.{◌≡◌, ◌∙◌, ℕ, zero, suc, ◌+◌, ◌≤◌, ◌<◌, Bool, true, false, nat_lt, ap, sym, subst, refl, List, [], ◌∷◌, ◌++◌, length, take, drop, append_assoc, append-nil, arith, Option, Some, None, ok_or, option_and_then, Result, Ok, Err, IfOk, if◌then◌else◌, ◌⊎◌, inl, inr}
+use Rattle.std.proofs.Common.{◌≡◌, ◌∙◌, ℕ, zero, suc, ◌+◌, ◌≤◌, ◌<◌, Bool, true, false, nat_lt, ap, sym, subst, refl, List, [], ◌∷◌, ◌++◌, length, take, drop, arith, Option, Some, None, ok_or, option_and_then, Result, Ok, Err, IfOk, if◌then◌else◌, ◌⊎◌, inl, inr}
 use Rattle.std.proofs.lemmas.Bool.Decides.{nat_tests}
-use Rattle.std.proofs.lemmas.List.{take-append-drop}
+use Rattle.std.proofs.lemmas.List.{take-append-drop, take_all, length-take}
 use Rattle.isp_plain.specs.declared.script.Script.{Script}
-use Rattle.isp_plain.specs.declared.script.Session.{Session}
 use Rattle.isp_script.specs.BadLines.{Begins, IsFirstBad, IsBadLine}
 use Rattle.isp_script.specs.Grammar.{IsScriptOfLines, IsScript}
 use Rattle.isp_script.specs.Laws.{OneScript, OneBadLine, ScriptOrBadLine, NotBoth}
@@ -34,10 +33,6 @@ failing_begins_none lines fails (more, script, is) =
     let no : None ≡ Some (Ended script.setup script.sessions) =
     sym (leads_on Nothing lines more ∙ ap (option_and_then (λ r. leads r more)) fails) ∙ ended (lines ++ more) script is in
     cc
-
--- the front of lines that begin a script begins it too
-front_begins : (lines more : List (List ℕ)) (script : Script) → IsScriptOfLines (lines ++ more) script → Begins lines
-front_begins lines more script is = (more, script, is)
 
 -- ---- where reading stops
 
@@ -279,3 +274,23 @@ pub told_by : (result : Result Script ScriptError) (bytes : List ℕ) → Tells 
 told_by (Ok read) bytes is line bad = not_both bytes read line (read_sound bytes read is) bad
 told_by (Err (Bad told)) bytes is line bad = one_bad_line bytes told line (read_bad bytes told is) bad
 told_by (Err OutOfMemory) bytes is line bad = tt
+
+-- ---- bytes of which no more are read than one more than a script has
+
+pub script_of_front : (bytes : List ℕ) (script : Script) → IsScript (take 16777217 bytes) script → IsScript bytes script
+script_of_front bytes script is =
+    let cut = length-take 16777217 bytes in
+    let most = is.most in
+    let P : List ℕ → Type 0 = λ all. IsScript all script in subst P (take_all 16777217 bytes (omega arith)) is
+
+bad_line_of_front_by : (bytes : List ℕ) (line : ℕ) (b : Bool) → nat_lt 16777216 (length bytes) ≡ b → IsBadLine (take 16777217 bytes) line → IsBadLine bytes line
+bad_line_of_front_by bytes line true long is =
+    let past = too_many (length bytes) 16777216 long in
+    let cut = length-take 16777217 bytes in
+    record { too_long = λ more. is.too_long (omega arith); first = λ few. absurd (omega arith) }
+bad_line_of_front_by bytes line false long is =
+    let few = at_most (length bytes) 16777216 long in
+    let P : List ℕ → Type 0 = λ all. IsBadLine all line in subst P (take_all 16777217 bytes (omega arith)) is
+
+pub bad_line_of_front : (bytes : List ℕ) (line : ℕ) → IsBadLine (take 16777217 bytes) line → IsBadLine bytes line
+bad_line_of_front bytes line is = bad_line_of_front_by bytes line (nat_lt 16777216 (length bytes)) refl is

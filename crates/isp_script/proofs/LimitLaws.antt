@@ -1,5 +1,5 @@
 -- The numbers of a script's sessions and the lengths of its texts.
-use Rattle.std.proofs.Common.{◌≡◌, ℕ, ◌-◌, ◌≤◌, Bool, true, false, ◌&&◌, ◌||◌, ◌==◌, nat_lt, List, [], ◌∷◌, ◌++◌, refl, sym, subst, arith, Option, Some, None, length, map, take, drop, slice_index, if◌then◌else◌, append_assoc, All}
+use Rattle.std.proofs.Common.{◌≡◌, ℕ, ◌-◌, ◌≤◌, Bool, true, false, ◌&&◌, ◌||◌, ◌==◌, nat_lt, List, [], ◌∷◌, ◌++◌, refl, subst, arith, Option, Some, None, length, map, take, drop, slice_index, if◌then◌else◌, append_assoc, All}
 use Rattle.std.specs.List.{cons_option}
 use Rattle.std.specs.Str.{bytes_eq}
 use Rattle.std.proofs.lemmas.Bool.Decides.{nat_tests}
@@ -9,7 +9,7 @@ use Rattle.isp_plain.specs.declared.script.Script.{Script}
 use Rattle.isp_plain.specs.declared.script.Session.{Session}
 use Rattle.isp_plain.specs.Alone.{IsAlone}
 use Rattle.isp_script.specs.Grammar.{said_in, sessions_said, script_said, AtMostOne, IsScript}
-use Rattle.isp_script.specs.Laws.{IsShort, IsWithin, AreWithin, WithinLimits}
+use Rattle.isp_script.specs.Laws.{IsShort, IsWithin, WithinLimits}
 use Rattle.isp_script.specs.Lines.{line_of, lines_of, content_of, trimmed_length, without_return, word_of, session_of, setup_word, schedule_word, end_word, session_word}
 use Rattle.isp_script.specs.declared.lines.Line.{Line}
 use Rattle.isp_script.specs.declared.lines.Line.TheVariants as line
@@ -120,3 +120,12 @@ within_limits bytes script is =
     let all : AllIn (script_said script.setup script.sessions) = subst P is.lines.said (said_within (lines_of bytes)) in
     let (texts, rest) = texts_within script.setup (sessions_said script.sessions ++ line.Schedule ∷ line.End ∷ []) all.1 in
     record { setup = texts; sessions = sessions_within script.sessions (line.Schedule ∷ line.End ∷ []) rest }
+
+alone : (sessions : List Session) → AtMostOne sessions → All IsWithin sessions → IsAlone sessions
+alone [] one all = tt
+alone (s ∷ []) one all = let least = (all 0 s (omega arith)).least in grind (arith, nat_tests)
+alone (s ∷ t ∷ sessions) one all = absurd one
+
+-- what is built of a script has at most one session, which is none of the setup
+pub script_is_alone : (bytes : List ℕ) (script : Script) → IsScript bytes script → IsAlone script.sessions
+script_is_alone bytes script is = alone script.sessions is.lines.built.one (within_limits bytes script is).sessions

@@ -1,7 +1,8 @@
 -- Where the lines of bytes are cut, and where the blanks at the end of a line begin.
-use Rattle.std.proofs.Common.{◌≡◌, ℕ, zero, suc, ◌<◌, ◌≤◌, ◌+◌, Bool, true, false, ◌&&◌, ◌==◌, cond, nat_lt, List, [], ◌∷◌, ◌++◌, length, take, drop, refl, ap, sym, ◌∙◌, arith, Option, Some, None, if◌then◌else◌, ◌⊎◌, inl, inr}
+use Rattle.std.proofs.Common.{◌≡◌, ℕ, zero, suc, ◌<◌, ◌≤◌, ◌+◌, Bool, true, false, ◌&&◌, ◌==◌, cond, nat_lt, List, [], ◌∷◌, ◌++◌, length, take, drop, refl, append_assoc, ap, ◌∙◌, arith, Option, Some, None, if◌then◌else◌, ◌⊎◌, inl, inr}
 use Rattle.std.specs.List.{onto_first, position, position_or_len}
 use Rattle.std.proofs.lemmas.Bool.Decides.{nat_tests}
+use Rattle.isp_script.specs.Laws.{HasNoFeed, spelled, if_any, LinesSpelled}
 use Rattle.isp_script.specs.Lines.{lines_of, is_blank, trimmed_length}
 
 abbrev feed_at : List ℕ → ℕ
@@ -69,6 +70,31 @@ pub uncut : (bytes : List ℕ) → 0 < length bytes → position (λ b. b == 10)
 uncut [] some none = absurd (omega arith)
 uncut (b ∷ bytes) some none =
     whole b bytes (not_below _ _ (at_none (nat_lt (feed_at (b ∷ bytes)) (length (b ∷ bytes))) (feed_at (b ∷ bytes)) none))
+
+without_first : (b : ℕ) (line : List ℕ) → HasNoFeed (b ∷ line) → HasNoFeed line
+without_first b line none = λ k d inside. none (suc k) d (omega arith)
+
+line_then : (line rest : List ℕ) → HasNoFeed line → lines_of (line ++ 10 ∷ rest) ≡ line ∷ lines_of rest
+line_then [] rest none = refl
+line_then (b ∷ line) rest none =
+    let other : (b == 10) ≡ false = none 0 b (omega arith) in
+    let here : lines_of ((b ∷ line) ++ 10 ∷ rest) ≡ onto_first b (lines_of (line ++ 10 ∷ rest)) = rw other refl in
+    here ∙ ap (onto_first b) (line_then line rest (without_first b line none))
+
+last_line : (line : List ℕ) → HasNoFeed line → lines_of line ≡ if_any line
+last_line [] none = refl
+last_line (b ∷ []) none = let other : (b == 10) ≡ false = none 0 b (omega arith) in rw other refl
+last_line (b ∷ c ∷ line) none =
+    let other : (b == 10) ≡ false = none 0 b (omega arith) in
+    let here : lines_of (b ∷ c ∷ line) ≡ onto_first b (lines_of (c ∷ line)) = rw other refl in
+    here ∙ ap (onto_first b) (last_line (c ∷ line) (without_first b (c ∷ line) none))
+
+pub lines_spelled : LinesSpelled
+lines_spelled [] last none no_last = last_line last no_last
+lines_spelled (line ∷ lines) last none no_last =
+    ap lines_of (append_assoc (line ++ 10 ∷ []) (spelled lines) last ∙ append_assoc line (10 ∷ []) (spelled lines ++ last))
+    ∙ (line_then line (spelled lines ++ last) (none 0 line (omega arith))
+    ∙ ap (λ ls. line ∷ ls) (lines_spelled lines last (λ k d inside. none (suc k) d (omega arith)) no_last))
 
 -- a blank more at the end, and any other byte more
 pub trimmed_length-blank : (bytes : List ℕ) (b : ℕ) → is_blank b ≡ true → trimmed_length (bytes ++ b ∷ []) ≡ trimmed_length bytes

@@ -1,12 +1,12 @@
 -- What reading lines gives: the lines of a script lead to its end, and what leads to an end is a script.
-use Rattle.std.proofs.Common.{◌≡◌, ◌∙◌, ℕ, ◌+◌, ◌≤◌, Bool, true, false, nat_lt, ap, sym, subst, refl, List, [], ◌∷◌, ◌++◌, length, map, append_assoc, append-nil, Option, Some, None, ok_or, option_and_then, Result, Ok, Err}
+use Rattle.std.proofs.Common.{◌≡◌, ◌∙◌, ℕ, false, ap, sym, subst, refl, List, [], ◌∷◌, ◌++◌, map, append_assoc, append-nil, Option, Some, None, option_and_then}
 use Rattle.std.specs.List.{cons_option}
 use Rattle.std.proofs.lemmas.List.{map-append}
 use Rattle.isp_plain.specs.declared.script.Script.{Script}
 use Rattle.isp_plain.specs.declared.script.Session.{Session}
 use Rattle.isp_script.specs.Grammar.{said_in, sessions_said, script_said, AtMostOne, Rises, IsScriptOfLines}
-use Rattle.isp_script.specs.Lines.{line_of, lines_of, setup_word, schedule_word, end_word, session_word}
-use Rattle.isp_script.specs.Reading.{step, heard, script_read, or_bad, read_on}
+use Rattle.isp_script.specs.Lines.{line_of, setup_word, schedule_word, end_word, session_word}
+use Rattle.isp_script.specs.Reading.{step, heard}
 use Rattle.isp_script.specs.declared.lines.Line.{Line}
 use Rattle.isp_script.specs.declared.lines.Line.TheVariants as line
 use Rattle.isp_script.specs.declared.script.Reading.{Reading}

@@ -1,9 +1,26 @@
 -- What holds of all scripts.
-use Rattle.std.specs.Prelude.{◌≡◌, ℕ, ◌≤◌, List, length, All, ◌⊎◌}
+use Rattle.std.specs.Prelude.{◌≡◌, ℕ, ◌≤◌, ◌==◌, false, List, [], ◌∷◌, ◌++◌, length, All, ◌⊎◌}
+use Rattle.std.specs.List.{flat_map}
 use Rattle.isp_plain.specs.declared.script.Script.{Script}
 use Rattle.isp_plain.specs.declared.script.Session.{Session}
 use Rattle.isp_script.specs.BadLines.{IsBadLine}
 use Rattle.isp_script.specs.Grammar.{IsScript}
+use Rattle.isp_script.specs.Lines.{lines_of}
+
+abbrev pub HasNoFeed : List ℕ → Type 0
+HasNoFeed line = All (λ b. (b == 10) ≡ false) line
+
+-- lines with their line feeds
+abbrev pub spelled : List (List ℕ) → List ℕ
+spelled lines = flat_map (λ line. line ++ 10 ∷ []) lines
+
+abbrev pub if_any : List ℕ → List (List ℕ)
+if_any [] = []
+if_any (b ∷ bytes) = (b ∷ bytes) ∷ []
+
+-- lines with their line feeds, and what stands behind the last one, have these lines
+abbrev pub LinesSpelled : Type 0
+LinesSpelled = (lines : List (List ℕ)) (last : List ℕ) → All HasNoFeed lines → HasNoFeed last → lines_of (spelled lines ++ last) ≡ lines ++ if_any last
 
 -- bytes are one script at most
 abbrev pub OneScript : Type 0

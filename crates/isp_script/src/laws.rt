@@ -1,6 +1,12 @@
 //! What holds of all scripts.
 
-ghost use Rattle.isp_script.specs.Laws.{OneScript, OneBadLine, ScriptOrBadLine, NotBoth, WithinLimits};
+ghost use Rattle.isp_script.specs.Laws.{LinesSpelled, OneScript, OneBadLine, ScriptOrBadLine, NotBoth, WithinLimits};
+
+/// Lines that are spelled with a line feed behind each, and what stands behind the last one, are these lines; where
+/// nothing stands there, it is no line.
+pub fn law_lines_spelled()
+    ensures { LinesSpelled }
+{}
 
 /// Bytes are one script at most.
 pub fn law_one_script()

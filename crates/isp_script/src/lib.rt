@@ -11,5 +11,7 @@ mod tests;
 
 pub use error::ScriptError;
 pub use isp_plain::{Script, Session, Sessions, Texts, Word, Words};
-pub use laws::{law_one_bad_line, law_one_script, law_script_or_bad_line, law_within_limits};
+pub use laws::{
+    law_lines_spelled, law_one_bad_line, law_one_script, law_script_or_bad_line, law_within_limits,
+};
 pub use script::read_script;
