@@ -147,7 +147,8 @@ fn faults(rt: HostRuntime) -> Result<(), Fail> {
 const POINTS: &str =
     "CREATE TABLE p (id BIGINT PRIMARY KEY, g GEOMETRY NOT NULL SRID 0, SPATIAL INDEX (g))";
 
-const FIVE: &str = "INSERT INTO p VALUES (1,ST_GeomFromText('POINT(0 0)')),(2,ST_GeomFromText('POINT(10 0)')),(3,ST_GeomFromText('POINT(0 10)')),(4,ST_GeomFromText('POINT(10 10)')),(5,ST_GeomFromText('POINT(5 5)'))";
+const FIVE: &str =
+    "INSERT INTO p VALUES (1,ST_GeomFromText('POINT(0 0)')),(2,ST_GeomFromText('POINT(10 0)')),(3,ST_GeomFromText('POINT(0 10)')),(4,ST_GeomFromText('POINT(10 10)')),(5,ST_GeomFromText('POINT(5 5)'))";
 
 fn push_statements(script: &mut Vec<u8>, statements: &[&str]) -> Result<(), AllocError> {
     for statement in statements {
