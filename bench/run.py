@@ -1,5 +1,6 @@
 #!/usr/bin/env python3
-"""Times the built program on growing scripts: many one-row INSERTs and one search, and 50 searches of growing tables.
+"""Times the built program on growing scripts: one-row INSERTs and a search, 50 searches of growing tables, scripts of
+1 to 16 MB in lines of 100 bytes, and statements whose geometry text grows to 60 KB, good or bad at its last byte.
 
 usage: bench/run.py [ROUNDS]      (default: 25; the least of each size counts)
 
@@ -35,6 +36,33 @@ def fifty_searches(rows):
     yield "setup\n" + CREATE
     yield from map(insert, range(1, rows + 1))
     yield "session 1\n" + search(9) * 50 + "schedule\nend\n"
+
+
+def lines_of_100_bytes(megabytes):
+    """INSERTs of a text, each line with its line feed 100 bytes long."""
+    yield "setup\nCREATE TABLE t (id BIGINT PRIMARY KEY, name VARCHAR(100));\nsession 1\n"
+    for key in range(megabytes * 10_000):
+        front = f"INSERT INTO t VALUES ({key}, '"
+        yield front + "x" * (100 - len(front) - 4) + "');\n"
+    yield "schedule\nend\n"
+
+
+def texts(kilobytes, last):
+    """200 INSERTs of a line whose text has so many bytes. The row is too large for a table; its text is read for that."""
+    yield "setup\n" + CREATE + "session 1\n"
+    point = "1000000 2000000"
+    text = "LINESTRING(" + ",".join([point] * (kilobytes * 1000 // (len(point) + 1))) + last
+    for key in range(200):
+        yield f"INSERT INTO p VALUES ({key},ST_GeomFromText('{text}'));\n"
+    yield "schedule\nend\n"
+
+
+def good_texts(kilobytes):
+    return texts(kilobytes, ")")
+
+
+def bad_texts(kilobytes):
+    return texts(kilobytes, "]")
 
 
 def script_file(lines):
@@ -76,6 +104,9 @@ def main():
     rounds = int(sys.argv[1]) if len(sys.argv) > 1 else 25
     table("one-row INSERTs, and one search", inserts_and_a_search, (20_000, 40_000, 80_000, 160_000), rounds)
     table("50 searches of a table of rows", fifty_searches, (5_000, 10_000, 20_000, 40_000), rounds)
+    table("a script of megabytes, lines of 100 bytes", lines_of_100_bytes, (1, 2, 4, 8, 16), min(rounds, 5))
+    table("200 geometry texts of kilobytes", good_texts, (1, 2, 4, 8, 15, 30, 60), rounds)
+    table("the same with a bad last byte", bad_texts, (1, 2, 4, 8, 15, 30, 60), rounds)
 
 
 main()
