@@ -3,3 +3,4 @@ pub mod Local
 pub mod Places
 pub mod Puts
 pub mod Slices
+mod Worked
