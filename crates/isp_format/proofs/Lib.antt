@@ -6,3 +6,4 @@ pub mod Offsets
 pub mod Places
 pub mod Puts
 pub mod Slices
+mod Worked
