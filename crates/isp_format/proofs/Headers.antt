@@ -1,18 +1,18 @@
 -- Numbers and headers in a page: read from the contents as from the page, and read back as they were spelled.
-use Rattle.std.proofs.Common.{◌≡◌, inl, inr, ℕ, zero, suc, drop, ◌+◌, ◌-◌, ◌*◌, ◌<◌, ◌≤◌, ◌^◌, Bool, true, false, ◌||◌, List, [], ◌∷◌, ◌++◌, length, refl, sym, ◌∙◌, ap, subst, arith, if◌then◌else◌, length-append}
+use Rattle.std.proofs.Common.{◌≡◌, inl, inr, ℕ, zero, suc, drop, ◌+◌, ◌-◌, ◌*◌, ◌<◌, ◌≤◌, ◌^◌, List, [], ◌++◌, length, refl, sym, ◌∙◌, ap, arith, length-append}
 use Rattle.std.specs.Prelude.{slice_index}
 use Rattle.byteorder.specs.Endian.{big_from, big_number}
-use Rattle.byteorder.specs.Numbers.{big_number-reads_back, length-bytes_high_first}
+use Rattle.byteorder.specs.Numbers.{big_number-reads_back}
 use Rattle.std.proofs.lemmas.Bool.{cases_lt}
 use Rattle.std.proofs.lemmas.List.{get_or-append_right, get_or-drop}
 use Rattle.std.proofs.Math.ListN.{get_or-append}
-use Rattle.isp_disk.specs.Moments.{Image, Region, Agree, image_of, in_range, put, slice}
-use Rattle.isp_format.specs.Empty.{empty_contents, first_fresh, first_header, first_headers, fresh_range}
+use Rattle.isp_disk.specs.Moments.{Image, image_of, put, slice}
+use Rattle.isp_format.specs.Empty.{empty_contents, first_header}
 use Rattle.isp_format.specs.Header.{Header, header_bytes, header_of, number_in}
-use Rattle.isp_format.specs.Numbers.{bytes_of, number_at}
-use Rattle.isp_format.specs.Ranges.{Contents, Range, page_bytes, page_of, puts}
-use Rattle.isp_format.proofs.Places.{above, below, inside}
-use Rattle.isp_format.proofs.Slices.{length-slice, number_agree, number_put, put_above, put_below, put_inside, slice_moved}
+use Rattle.isp_format.specs.Numbers.{number_at}
+use Rattle.isp_format.specs.Ranges.{Contents, page_bytes, page_of}
+use Rattle.isp_format.proofs.Places.{inside}
+use Rattle.isp_format.proofs.Slices.{number_agree, put_above, put_below, put_inside, slice_moved}
 
 -- a byte of a slice
 pub slice_byte : (image : Image) (at size k : ℕ) → k < size → slice_index (slice image at size) k ≡ image (at + k)

@@ -1,16 +1,15 @@
 -- Which bytes of an image the page rules and the log read: an image that agrees with another there has the same control
 -- block, copies, page area and log.
-use Rattle.std.proofs.Common.{◌≡◌, ◌≢◌, ℕ, zero, suc, ◌+◌, ◌*◌, ◌-◌, ◌<◌, ◌≤◌, ◌==◌, Bool, true, false, List, [], ◌∷◌, All, map, min, length, refl, sym, ◌∙◌, ap, subst, arith, if◌then◌else◌}
+use Rattle.std.proofs.Common.{◌≡◌, ◌≢◌, ℕ, zero, suc, ◌+◌, ◌*◌, ◌<◌, ◌≤◌, ◌==◌, Bool, false, List, [], ◌∷◌, map, min, refl, sym, ◌∙◌, ap, subst, arith, if◌then◌else◌}
 use Rattle.std.proofs.lemmas.Bool.Decides.{nat_tests}
-use Rattle.isp_disk.specs.Moments.{Image, Region, Agree, in_range, slice}
+use Rattle.isp_disk.specs.Moments.{Image, slice}
 use Rattle.isp_format.specs.Contents.{StandsFor, ranges_of}
-use Rattle.isp_format.specs.Control.{IsControl, IsFanout, IsPages, fanout_in, file_name, made_gate, pages_in}
-use Rattle.isp_format.specs.Doublewrite.{HasCopies, IsCopyList, area, area_place, copies, copies_from, copies_place, copy_at, copy_count, count_place, doublewrite_gate, laid, list_place, most_copies}
+use Rattle.isp_format.specs.Control.{IsControl, IsFanout, IsPages, fanout_in, pages_in}
+use Rattle.isp_format.specs.Doublewrite.{HasCopies, IsCopyList, area, copies, copies_from, copies_place, copy_at, copy_count, doublewrite_gate, laid, list_place, most_copies}
 use Rattle.isp_format.specs.Log.{IsLog, Transaction, log_bytes, log_of, log_place}
 use Rattle.isp_format.specs.Numbers.{number_at}
 use Rattle.isp_format.specs.Ranges.{Contents, Range, page_bytes, puts}
 use Rattle.isp_format.proofs.LogWalks.{log_inside, log_same}
-use Rattle.isp_format.proofs.Puts.{absorbs}
 use Rattle.isp_format.proofs.Slices.{number_agree, slice_agree}
 
 -- the two images have the same bytes from a place on, so many

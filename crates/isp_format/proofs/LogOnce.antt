@@ -1,22 +1,22 @@
 -- The bytes of a body are those of one list of mini-transactions, so that a log has one list of batches.
-use Rattle.std.proofs.Common.{◌≡◌, ◌≢◌, ℕ, zero, suc, ◌+◌, ◌*◌, ◌^◌, ◌<◌, ◌≤◌, List, [], ◌∷◌, ◌++◌, drop, take, length, refl, sym, ◌∙◌, ap, subst, arith}
+use Rattle.std.proofs.Common.{◌≡◌, ℕ, suc, ◌+◌, ◌^◌, ◌<◌, ◌≤◌, List, [], ◌∷◌, ◌++◌, drop, take, length, refl, sym, ◌∙◌, ap, subst, arith}
 use Rattle.std.specs.Prelude.{All}
 use Rattle.std.specs.List.{flat_map}
 use Rattle.std.proofs.lemmas.List.{append_assoc, length-append}
 use Rattle.std.proofs.Math.Seq.{drop-append_seam, take-append_seam}
-use Rattle.byteorder.specs.Endian.{big_bytes, big_number}
+use Rattle.byteorder.specs.Endian.{big_number}
 use Rattle.byteorder.specs.Numbers.{big_number-reads_back, length-bytes_high_first}
 use Rattle.isp_disk.specs.Moments.{Image, slice}
-use Rattle.isp_format.specs.Log.{IsBatch, IsBody, IsLog, IsTransaction, Transaction, log_bytes, range_bytes, transaction_bytes}
-use Rattle.isp_format.specs.Numbers.{bytes_of, number_at}
-use Rattle.isp_format.specs.Ranges.{IsRange, Range, page_bytes}
+use Rattle.isp_format.specs.Log.{IsBatch, IsLog, IsTransaction, Transaction, log_bytes, range_bytes, transaction_bytes}
+use Rattle.isp_format.specs.Numbers.{bytes_of}
+use Rattle.isp_format.specs.Ranges.{IsRange, Range}
 
 -- lists of one length at the front of the same list
 pub cut : (one other more others : List ℕ) → length one ≡ length other → one ++ more ≡ other ++ others → (one ≡ other) × (more ≡ others)
 cut one other more others long same = (
-    sym (take-append_seam one more) ∙ ap (take (length one)) same ∙ ap (λ (n : ℕ). take n (other ++ others)) long ∙ take-append_seam other others,
-    sym (drop-append_seam one more) ∙ ap (drop (length one)) same ∙ ap (λ (n : ℕ). drop n (other ++ others)) long ∙ drop-append_seam other others,
-  )
+  sym (take-append_seam one more) ∙ ap (take (length one)) same ∙ ap (λ (n : ℕ). take n (other ++ others)) long ∙ take-append_seam other others,
+  sym (drop-append_seam one more) ∙ ap (drop (length one)) same ∙ ap (λ (n : ℕ). drop n (other ++ others)) long ∙ drop-append_seam other others,
+)
 
 -- numbers of so many bytes
 pub number_once : (size x y : ℕ) (more others : List ℕ) → x < 256 ^ size → y < 256 ^ size → bytes_of size x ++ more ≡ bytes_of size y ++ others → (x ≡ y) × (more ≡ others)

@@ -1,7 +1,7 @@
 -- The walk along the log from gate to gate: what of an image it reads, what one more batch makes of it, and that it is one.
-use Rattle.std.proofs.Common.{◌≡◌, ◌≢◌, ℕ, zero, suc, ◌+◌, ◌-◌, ◌*◌, ◌<◌, ◌≤◌, List, [], ◌∷◌, ◌++◌, length, refl, sym, ◌∙◌, ap, subst, arith}
-use Rattle.isp_disk.specs.Moments.{Image, slice}
-use Rattle.isp_format.specs.Log.{IsBatch, IsBody, IsLog, Transaction, log_bytes}
+use Rattle.std.proofs.Common.{◌≡◌, ◌≢◌, ℕ, suc, ◌+◌, ◌-◌, ◌<◌, ◌≤◌, List, [], ◌∷◌, ◌++◌, length, refl, sym, ◌∙◌, ap, subst, arith}
+use Rattle.isp_disk.specs.Moments.{Image}
+use Rattle.isp_format.specs.Log.{IsBatch, IsLog, Transaction, log_bytes}
 use Rattle.isp_format.proofs.Slices.{slice_moved}
 
 -- images that are the same at so many places from one on

@@ -1,5 +1,5 @@
 -- Ranges within ranges, and the first byte of what was put.
-use Rattle.std.proofs.Common.{◌≡◌, ℕ, ◌+◌, ◌-◌, ◌≤◌, List, ◌∷◌, length, slice_index, refl, ◌∙◌, ap, arith}
+use Rattle.std.proofs.Common.{◌≡◌, ℕ, ◌+◌, ◌-◌, ◌≤◌, List, ◌∷◌, length, slice_index, ◌∙◌, ap, arith}
 use Rattle.std.proofs.lemmas.Bool.Decides.{nat_tests}
 use Rattle.isp_disk.specs.Moments.{Image, Within, in_range, put}
 use Rattle.isp_format.proofs.Places.{inside}

@@ -1,8 +1,7 @@
 -- Which places a range and a region have.
-use Rattle.std.proofs.Common.{◌≡◌, inl, inr, ℕ, ◌+◌, ◌<◌, ◌≤◌, Bool, true, false, ◌||◌, refl, sym, ◌∙◌, arith}
-use Rattle.std.specs.Prelude.{nat_le, nat_lt}
+use Rattle.std.proofs.Common.{◌≡◌, ℕ, ◌+◌, ◌<◌, ◌≤◌, Bool, true, false, ◌||◌, refl, ◌∙◌, arith}
 use Rattle.std.proofs.lemmas.Bool.Decides.{nat_tests}
-use Rattle.isp_disk.specs.Moments.{Region, either, in_range}
+use Rattle.isp_disk.specs.Moments.{in_range}
 
 pub inside : (at size place : ℕ) → at ≤ place → place < at + size → in_range at size place ≡ true
 inside at size place low high = grind (arith, nat_tests)

@@ -1,9 +1,9 @@
 -- Ranges put into contents, one after the other. What they cover no longer depends on what stood there: this is the whole
 -- theory of redo and of copies here.
-use Rattle.std.proofs.Common.{◌≡◌, ℕ, ◌+◌, ◌-◌, ◌*◌, ◌<◌, ◌≤◌, Bool, true, false, ◌||◌, List, [], ◌∷◌, ◌++◌, length, refl, sym, ◌∙◌, ap, subst, arith, if◌then◌else◌}
+use Rattle.std.proofs.Common.{◌≡◌, ℕ, ◌-◌, Bool, true, false, ◌||◌, List, [], ◌∷◌, ◌++◌, length, refl, sym, ◌∙◌, if◌then◌else◌}
 use Rattle.std.specs.Prelude.{slice_index}
-use Rattle.isp_disk.specs.Moments.{Image, Region, Agree, either, in_range, put, slice}
-use Rattle.isp_format.specs.Ranges.{Contents, IsRange, Range, cover, page_bytes, page_of, place_of, puts}
+use Rattle.isp_disk.specs.Moments.{Image, Agree, in_range, put}
+use Rattle.isp_format.specs.Ranges.{Contents, Range, cover, place_of, puts}
 use Rattle.isp_format.proofs.Places.{neither, not_first, not_second}
 use Rattle.isp_format.proofs.Slices.{put_inside, put_outside}
 

@@ -1,12 +1,11 @@
 -- The definitions on small images, by computation.
-use Rattle.std.proofs.Common.{◌≡◌, ℕ, ◌+◌, ◌*◌, ◌<◌, ◌≤◌, ◌==◌, ◌||◌, List, [], ◌∷◌, All, length, refl, arith, if◌then◌else◌}
+use Rattle.std.proofs.Common.{◌≡◌, ℕ, ◌+◌, ◌*◌, ◌<◌, ◌==◌, [], ◌∷◌, refl, arith, if◌then◌else◌}
 use Rattle.std.specs.Prelude.{slice_index}
 use Rattle.std.proofs.lemmas.List.Elements.{All-cons}
-use Rattle.isp_disk.specs.Moments.{Image, in_range, put}
-use Rattle.isp_format.specs.Doublewrite.{HasCopies, area_place, copies, laid}
-use Rattle.isp_format.specs.Log.{IsBatch, IsBody, IsLog, IsTransaction, Transaction, log_of}
-use Rattle.isp_format.specs.Ranges.{IsRange, Range, page_bytes}
-use Rattle.isp_format.proofs.Local.{copies_closed}
+use Rattle.isp_disk.specs.Moments.{Image, in_range}
+use Rattle.isp_format.specs.Doublewrite.{HasCopies, area_place, laid}
+use Rattle.isp_format.specs.Log.{IsLog, IsTransaction}
+use Rattle.isp_format.specs.Ranges.{IsRange, Range}
 
 -- one copy of page 3, of bytes 7, under a gate of this value; page 3 in its place has bytes 9
 copied : ℕ → Image
@@ -49,16 +48,20 @@ one_log place = slice_index (1 ∷ 0 ∷ 0 ∷ 0 ∷ 11 ∷ 0 ∷ 1 ∷ 0 ∷ 0 
 
 one_batch : IsLog 64 one_log 0 (((one_range ∷ []) ∷ []) ∷ []) 16
 unfolding one_range one_log
-one_batch = (16, record {
-  body = 0 ∷ 1 ∷ 0 ∷ 0 ∷ 0 ∷ 5 ∷ 0 ∷ 64 ∷ 0 ∷ 1 ∷ 7 ∷ [];
-  gate = refl;
-  size = refl;
-  stands = refl;
-  behind = refl;
-  inside = omega arith;
-  means = record {
-    bytes = refl;
-    some = omega arith;
-    each = All-cons (IsTransaction 64) (one_range ∷ []) [] (omega arith, All-cons (IsRange 64) one_range [] (record { page = omega arith; some = omega arith; inside = omega arith }) (λ k d inside. absurd (omega arith))) (λ k d inside. absurd (omega arith));
-  };
-}, ((λ gate. absurd (cc)), refl))
+one_batch = (
+  16,
+  record {
+    body = 0 ∷ 1 ∷ 0 ∷ 0 ∷ 0 ∷ 5 ∷ 0 ∷ 64 ∷ 0 ∷ 1 ∷ 7 ∷ [];
+    gate = refl;
+    size = refl;
+    stands = refl;
+    behind = refl;
+    inside = omega arith;
+    means = record {
+      bytes = refl;
+      some = omega arith;
+      each = All-cons (IsTransaction 64) (one_range ∷ []) [] (omega arith, All-cons (IsRange 64) one_range [] (record { page = omega arith; some = omega arith; inside = omega arith }) (λ k d inside. absurd (omega arith))) (λ k d inside. absurd (omega arith));
+    };
+  },
+  ((λ gate. absurd (cc)), refl),
+)

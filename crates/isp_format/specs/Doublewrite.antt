@@ -1,6 +1,6 @@
 -- The page area, and the doublewrite area before it: copies of pages, which count while its gate is 1 (the MySQL 8.0 manual
 -- on the doublewrite buffer; the gate is this project's own).
-use Rattle.std.specs.Prelude.{◌≡◌, ℕ, zero, suc, ◌+◌, ◌*◌, ◌<◌, ◌≤◌, ◌==◌, Bool, List, [], ◌∷◌, All, map, min, if◌then◌else◌}
+use Rattle.std.specs.Prelude.{◌≡◌, ℕ, zero, suc, ◌+◌, ◌*◌, ◌<◌, ◌≤◌, ◌==◌, List, [], ◌∷◌, All, map, min, if◌then◌else◌}
 use Rattle.isp_disk.specs.Moments.{Image, slice}
 use Rattle.isp_format.specs.Numbers.{number_at}
 use Rattle.isp_format.specs.Ranges.{Contents, Range, page_bytes, puts}

@@ -1,5 +1,5 @@
 -- The pages of an empty file: the headers of the sixteen pages that every file has, and the first page never used.
-use Rattle.std.specs.Prelude.{ℕ, zero, suc, ◌*◌, ◌<◌, List, [], ◌∷◌, ◌++◌}
+use Rattle.std.specs.Prelude.{ℕ, zero, suc, List, [], ◌∷◌, ◌++◌}
 use Rattle.isp_format.specs.Header.{Header, header_bytes}
 use Rattle.isp_format.specs.Numbers.{bytes_of}
 use Rattle.isp_format.specs.Ranges.{Contents, Range, puts}

@@ -1,7 +1,7 @@
 -- The header of a page, its first 32 bytes: read from the bytes of the page, and spelled. Where the fields stand, and the
 -- kinds of pages, are this project's own; that a page has a right link and a sequence number is of Kornacker, Mohan and
 -- Hellerstein (1997).
-use Rattle.std.specs.Prelude.{ℕ, List, [], ◌∷◌, ◌++◌, slice_index}
+use Rattle.std.specs.Prelude.{ℕ, List, ◌∷◌, ◌++◌, slice_index}
 use Rattle.isp_disk.specs.Moments.{image_of}
 use Rattle.isp_format.specs.Numbers.{bytes_of, number_at}
 

@@ -1,6 +1,6 @@
 -- Contents of all pages, and changes of ranges in them. Contents are a byte at every place: page p is the 4,096 bytes from
 -- place 4,096 p on.
-use Rattle.std.specs.Prelude.{◌≡◌, ℕ, ◌+◌, ◌*◌, ◌<◌, ◌≤◌, List, [], ◌∷◌, length}
+use Rattle.std.specs.Prelude.{ℕ, ◌+◌, ◌*◌, ◌<◌, ◌≤◌, List, [], ◌∷◌, length}
 use Rattle.isp_disk.specs.Moments.{Image, Region, either, in_range, no_place, put, slice}
 
 abbrev pub page_bytes : ℕ
