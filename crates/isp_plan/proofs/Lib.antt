@@ -1,6 +1,7 @@
 mod BoundLaws
 mod EachLaws
-mod LinedTexts
+pub mod FaithfulLaws
+pub mod FitLaws
 mod NumberLaws
 mod RowLaws
-pub mod WholeLaws
+pub mod WrittenLaws

@@ -21,6 +21,6 @@ mod tests;
 
 pub use access::{Path, path_of};
 pub use binder::bind;
-pub use laws::law_whole_is_faithful;
+pub use laws::{law_bound_fits, law_whole_is_faithful};
 pub use meaning::meaning_of;
 pub use refusal::Refusal;

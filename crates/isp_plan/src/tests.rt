@@ -1,5 +1,5 @@
 use super::*;
-use isp_mbr::{Box4, Name, Predicate, Test};
+use isp_mbr::{Name, Predicate, Test};
 use isp_plain::{Atom, Columns, Op, Place, Schema, Statement, Value};
 use isp_sql::parse;
 use std::alloc::{AllocError, Global};
@@ -631,18 +631,20 @@ static PATHS: [(usize, &[u8], Way); 15] = [
     ),
 ];
 
-fn path_in(way: Way) -> Path {
-    match way {
-        Way::Key(key) => Path::Key(key),
-        Way::Tree(column, test, x1, y1, x2, y2) => Path::Tree {
-            column,
-            p: Predicate {
-                test,
-                q: Box4 { x1, y1, x2, y2 },
-            },
-        },
-        Way::Scan => Path::Scan,
+// Whether the path is this way.
+fn is_way(path: &Path, way: Way) -> bool {
+    match (path, way) {
+        (Path::Key(key), Way::Key(wanted)) => *key == wanted,
+        (Path::Tree { column, p }, Way::Tree(wanted, test, x1, y1, x2, y2)) => {
+            *column == wanted && is_test(p, test, x1, y1, x2, y2)
+        }
+        (Path::Scan, Way::Scan) => true,
+        _ => false,
     }
+}
+
+fn is_test(p: &Predicate, test: Test, x1: i32, y1: i32, x2: i32, y2: i32) -> bool {
+    p.test == test && p.q.x1 == x1 && p.q.y1 == y1 && p.q.x2 == x2 && p.q.y2 == y2
 }
 
 // The first of the texts that has another way.
@@ -656,7 +658,7 @@ fn first_astray(
         let Some((_, schema)) = tables.get(*table) else {
             return Ok(Some(i));
         };
-        if refusal_in(&s).0 != 0 || path_of(schema, &s) != path_in(*way) {
+        if refusal_in(&s).0 != 0 || !is_way(&path_of(schema, &s), *way) {
             return Ok(Some(i));
         }
     }
@@ -698,5 +700,7 @@ fn columns_are_shown_in_their_order(rt: HostRuntime) -> Result<(), Fail> {
     assert!(rt; columns.as_slice() == [0, 1, 2, 3, 4].as_slice());
     assert_eq!(rt; Refusal::TooLong.number(), 1406);
     assert_eq!(rt; Refusal::TooLong.place(), 0);
+    law_bound_fits();
+    law_whole_is_faithful();
     Ok(())
 }
