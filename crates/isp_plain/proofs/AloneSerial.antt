@@ -12,7 +12,7 @@ use Rattle.isp_plain.specs.Alone.{State, changed, settled, rolled_back, after_st
 use Rattle.isp_plain.specs.Answers.{Answer, NeverFalls, is_end, is_full, is_deadlock}
 use Rattle.isp_plain.specs.Lined.{are_lined, is_lined_statement}
 use Rattle.isp_plain.specs.Script.{texts_of}
-use Rattle.isp_plain.specs.Serial.{Serial, EndsAll, Pending, Replays, done, place_at}
+use Rattle.isp_plain.specs.Serial.{Serial, EndsAll, Pending, Replays, place_at}
 use Rattle.isp_plain.specs.Tables.{Table}
 use Rattle.isp_plain.specs.Texts.{end_text, full_text, deadlock_text}
 use Rattle.isp_plain.specs.Transactions.{Language}

@@ -63,7 +63,6 @@ refusals =
     ∷ with_place 9009 (codes "ERR 9009 HY000 nested too deep at ")
     ∷ fixed 9010 (codes "ERR 9010 HY000 not allowed here")
     ∷ fixed 9011 (codes "ERR 9011 HY000 row too large")
-    ∷ fixed 9012 (codes "ERR 9012 HY000 not built")
     ∷ fixed 9013 (codes "ERR 9013 HY000 definition out of limits")
     ∷ fixed 9014 (codes "ERR 9014 HY000 wrong type")
     ∷ fixed 9015 (codes "ERR 9015 HY000 transaction already begun")

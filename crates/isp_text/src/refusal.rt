@@ -59,7 +59,6 @@ fn push_words(out: &mut Vec<u8>, number: u32, place: &[u8]) -> Result<(), AllocE
         9009 => push_both(out, b"ERR 9009 HY000 nested too deep at ", place),
         9010 => push(out, b"ERR 9010 HY000 not allowed here"),
         9011 => push(out, b"ERR 9011 HY000 row too large"),
-        9012 => push(out, b"ERR 9012 HY000 not built"),
         9013 => push(out, b"ERR 9013 HY000 definition out of limits"),
         9014 => push(out, b"ERR 9014 HY000 wrong type"),
         9015 => push(out, b"ERR 9015 HY000 transaction already begun"),

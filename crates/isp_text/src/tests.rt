@@ -6,7 +6,7 @@ use std::alloc::{AllocError, Global};
 use std::test::Fail;
 
 // A refusal's number, the key or position that it tells, and its text.
-const REFUSALS: [(u32, i64, &[u8]); 26] = [
+const REFUSALS: [(u32, i64, &[u8]); 25] = [
     (1050, 0, b"ERR 1050 42S01 table exists"),
     (1054, 0, b"ERR 1054 42S22 unknown column"),
     (1062, -12, b"ERR 1062 23000 duplicate key -12"),
@@ -32,7 +32,6 @@ const REFUSALS: [(u32, i64, &[u8]); 26] = [
     (9009, 170, b"ERR 9009 HY000 nested too deep at 170"),
     (9010, 0, b"ERR 9010 HY000 not allowed here"),
     (9011, 0, b"ERR 9011 HY000 row too large"),
-    (9012, 0, b"ERR 9012 HY000 not built"),
     (9013, 0, b"ERR 9013 HY000 definition out of limits"),
     (9014, 0, b"ERR 9014 HY000 wrong type"),
     (9015, 0, b"ERR 9015 HY000 transaction already begun"),
