@@ -1,0 +1,6 @@
+//! An empty file made.
+#![tactic(auto)]
+
+mod making;
+
+pub use making::make;
