@@ -1,12 +1,13 @@
 //! A file of pages and its log, between two calls.
 ghost use Rattle.std.specs.Prelude.{◌≡◌, ◌⊎◌, ◌+◌, ◌<◌, ◌≤◌, ◌++◌, [], ◌∷◌, All, IsSome, IfErr, OnOk, length, map};
-ghost use Rattle.isp_disk.specs.Moments.{Agree, Quiet};
+ghost use Rattle.isp_disk.specs.Moments.{Agree, Quiet, slice};
 ghost use Rattle.isp_disk.specs.Outside.{HasCause, Prints};
 ghost use Rattle.isp_doublewrite.specs.Batches.{number_of, whole_page};
 ghost use Rattle.isp_format.specs.Contents.{ranges_of};
 ghost use Rattle.isp_format.specs.Doublewrite.{AreDistinct, most_copies};
 ghost use Rattle.isp_format.specs.Log.{IsBody, Transaction, log_bytes};
-ghost use Rattle.isp_format.specs.Ranges.{cover, page_of, puts};
+ghost use Rattle.isp_format.specs.Ranges.{cover, page_bytes, page_of, puts};
+ghost use Rattle.isp_redo.specs.Reading.{OnlyReads};
 ghost use Rattle.isp_stable.specs.File.{HasBatches, IsFile, KeepsShape, StandsOnly, flushed, placed};
 
 use isp_disk::{Failed, World};
@@ -39,7 +40,8 @@ impl<W: World> Stable<W> {
         ensures cause { HasCause (W.disk_faults self.old.world) (W.disk_faults self.new.world) result }
     {
         let at = AREA + u64::from(p.0) * PAGE_BYTES as u64;
-        self.world.read(at, &mut into.bytes)
+        fill(&mut self.world, at, &mut into.bytes)?;
+        Ok(())
     }
 
     /// The range of the log at a place, as `isp_redo::read_range`.
@@ -80,7 +82,8 @@ impl<W: World> Stable<W> {
         ensures shape { KeepsShape W.World self.old self.new }
         ensures cause { HasCause (W.disk_faults self.old.world) (W.disk_faults self.new.world) result }
     {
-        write_batch(&mut self.world, batch)
+        write_batch(&mut self.world, batch)?;
+        Ok(())
     }
 
     /// Appends a batch with one mini-transaction. A stop leaves the contents without its ranges or with them; after it,
@@ -101,7 +104,8 @@ impl<W: World> Stable<W> {
         ensures shape { KeepsShape W.World self.old self.new }
         ensures cause { HasCause (W.disk_faults self.old.world) (W.disk_faults self.new.world) result }
     {
-        self.log.append(&mut self.world, body)
+        self.log.append(&mut self.world, body)?;
+        Ok(())
     }
 
     /// Empties the log. Where the pages stand in their places, a stop leaves the same contents.
@@ -119,6 +123,18 @@ impl<W: World> Stable<W> {
         ensures shape { KeepsShape W.World self.old self.new }
         ensures cause { HasCause (W.disk_faults self.old.world) (W.disk_faults self.new.world) result }
     {
-        self.log.reset(&mut self.world)
+        self.log.reset(&mut self.world)?;
+        Ok(())
     }
+}
+
+// Fills a page's bytes with those from `at` on.
+fn fill<W: World>(world: &mut W, at: u64, into: &mut [u8; PAGE_BYTES]) -> Result<(), Failed>
+    requires { Quiet (W.pending world.old) }
+    ensures bytes { IsSome (W.printed world.old) → OnOk result (into.new ≡ slice (W.image world.old) at page_bytes) }
+    ensures reads { OnlyReads W.clock W.left_since W.image W.pending W.printed W.print_faults world.old world.new }
+    ensures cause { HasCause (W.disk_faults world.old) (W.disk_faults world.new) result }
+{
+    world.read(at, into)?;
+    Ok(())
 }
