@@ -1,12 +1,13 @@
 //! A file of pages and its log, between two calls.
-ghost use Rattle.std.specs.Prelude.{◌≡◌, ◌⊎◌, ◌+◌, ◌<◌, ◌≤◌, ◌++◌, [], ◌∷◌, All, IsSome, IfErr, OnOk, length, map};
+ghost use Rattle.std.specs.Prelude.{◌≡◌, ◌⊎◌, ◌+◌, ◌<◌, ◌≤◌, ◌++◌, [], ◌∷◌, All, List, IsSome, IfOk, OnOk, length, map};
 ghost use Rattle.isp_disk.specs.Moments.{Agree, Quiet, slice};
 ghost use Rattle.isp_disk.specs.Outside.{HasCause, Prints};
 ghost use Rattle.isp_doublewrite.specs.Batches.{number_of, whole_page};
 ghost use Rattle.isp_format.specs.Contents.{ranges_of};
 ghost use Rattle.isp_format.specs.Doublewrite.{AreDistinct, most_copies};
-ghost use Rattle.isp_format.specs.Log.{IsBody, Transaction, log_bytes};
-ghost use Rattle.isp_format.specs.Ranges.{cover, page_bytes, page_of, puts};
+ghost use Rattle.isp_format.specs.Log.{IsBody, Transaction, log_bytes, log_of};
+ghost use Rattle.isp_format.specs.Ranges.{Range, cover, page_bytes, page_of, puts};
+ghost use Rattle.isp_redo.specs.Places.{IsAt, LiesInPage, TakesRange, place_of};
 ghost use Rattle.isp_redo.specs.Reading.{OnlyReads};
 ghost use Rattle.isp_stable.specs.File.{HasBatches, IsFile, KeepsShape, StandsOnly, flushed, placed};
 
@@ -51,6 +52,10 @@ impl<W: World> Stable<W> {
         into: &mut [u8; PAGE_BYTES],
     ) -> Result<Option<LogRange>, Failed>
         requires quiet { Quiet (W.pending self.old.world) }
+        ensures found { IsSome (W.printed self.old.world) → IsFile W.World self.old → (ranges : List Range)
+            → IsAt self.old.pages (log_of (W.image self.old.world)) (place_of from) ranges
+            → IfOk result (λ found. TakesRange self.old.pages (log_of (W.image self.old.world)) ranges into.new found) }
+        ensures in_page { IfOk result (λ found. LiesInPage found) }
         ensures stops { IsSome (W.printed self.old.world) → (file : IsFile W.World self.old)
             → StandsOnly W.World self.old.world self.new.world (λ contents. contents ≡ flushed W.World self.old file.batches) }
         ensures same { W.image self.new.world ≡ W.image self.old.world }
