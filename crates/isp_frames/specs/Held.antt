@@ -1,5 +1,5 @@
 -- What the frames of a pool hold over the pages that stand in their places.
-use Rattle.std.specs.Prelude.{◌≡◌, ◌≢◌, ◌⊎◌, ℕ, ◌<◌, Bool, true, false, not, List, [], ◌∷◌, ◌++◌, Option, Some, None, length}
+use Rattle.std.specs.Prelude.{◌≡◌, ◌≢◌, ◌⊎◌, ℕ, ◌*◌, ◌<◌, Bool, true, false, not, List, [], ◌∷◌, ◌++◌, Option, Some, None, length}
 use Rattle.isp_disk.specs.Moments.{Region, either, in_range, no_place}
 use Rattle.isp_format.specs.Ranges.{Contents, Range, page_bytes, page_of, puts}
 use Rattle.isp_page.specs.declared.page.Page.{Page}

@@ -54,3 +54,8 @@ TakesRange pages log ranges into None = ranges ≡ []
 abbrev pub LiesInPage : Option LogRange → Type 0
 LiesInPage (Some found) = (1 ≤ found.len) × (found.at + found.len ≤ 4096)
 LiesInPage None = Unit {0}
+
+-- the range leads to a place further on in the log
+abbrev pub IsFurther : ℕ → Option LogRange → Type 0
+IsFurther from (Some found) = ((place_of from).at < (place_of found.next).at) × ((place_of found.next).at < log_bytes)
+IsFurther from None = Unit {0}

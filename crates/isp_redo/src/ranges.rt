@@ -1,11 +1,12 @@
 //! The ranges of the log, one after the other.
 
 ghost use Rattle.std.specs.Prelude.{◌≡◌, ◌+◌, ◌*◌, ◌<◌, ◌≤◌, ℕ, List, IfOk, IfSome, IsSome, OnOk, nat_lt, nat_le, take, ◌&&◌};
+ghost use Rattle.std.specs.Option.{option_map};
 ghost use Rattle.isp_disk.specs.Moments.{Quiet, slice};
 ghost use Rattle.isp_disk.specs.Outside.{HasCause};
 ghost use Rattle.isp_format.specs.Log.{log_bytes, log_of};
 ghost use Rattle.isp_format.specs.Ranges.{Range};
-ghost use Rattle.isp_redo.specs.Places.{GoesOn, IsAt, LeadsOn, LiesInPage, TakesRange, place_of};
+ghost use Rattle.isp_redo.specs.Places.{GoesOn, IsAt, IsFurther, LeadsOn, LiesInPage, TakesRange, place_of};
 ghost use Rattle.isp_redo.specs.Reading.{OnlyReads};
 
 use crate::fields::{Header, LOG_BYTES, read_at, read_count, read_gate, read_header, read_size};
@@ -150,6 +151,7 @@ fn take<W: World>(
         → IsAt pages (log_of (W.image world.old)) place ranges
         → IfOk result (λ found. TakesRange pages (log_of (W.image world.old)) ranges into.new found) }
     ensures in_page { IfOk result (λ found. LiesInPage found) }
+    ensures onward { IfOk result (λ found. GoesOn place (option_map (λ range. place_of range.next) found)) }
     ensures reads { OnlyReads W.clock W.left_since W.image W.pending W.printed W.print_faults world.old world.new }
     ensures cause { HasCause (W.disk_faults world.old) (W.disk_faults world.new) result }
 {
@@ -178,7 +180,7 @@ fn take<W: World>(
 }
 
 /// The range of the log at a place, with its bytes at the front of `into`; None exactly at the end of the log. The place
-/// is 0 for the first range, and else the `next` of the range before it.
+/// is 0 for the first range, and else the `next` of the range before it, which lies further on in the log.
 pub fn read_range<W: World>(
     world: &mut W,
     from: u64,
@@ -189,6 +191,7 @@ pub fn read_range<W: World>(
         → IsAt pages (log_of (W.image world.old)) (place_of from) ranges
         → IfOk result (λ found. TakesRange pages (log_of (W.image world.old)) ranges into.new found) }
     ensures in_page { IfOk result (λ found. LiesInPage found) }
+    ensures onward { IfOk result (λ found. IsFurther from found) }
     ensures reads { OnlyReads W.clock W.left_since W.image W.pending W.printed W.print_faults world.old world.new }
     ensures cause { HasCause (W.disk_faults world.old) (W.disk_faults world.new) result }
 {

@@ -1,4 +1,5 @@
 //! The log over a disk in memory that may stop.
+ghost use Rattle.std.specs.Prelude.{◌<◌, ◌≤◌, length};
 
 use super::*;
 use isp_disk::{MemWorld, World};
@@ -26,10 +27,13 @@ fn disk(alloc: Global, log: &[u8], size: u64) -> Result<MemWorld, AllocError> {
     MemWorld::new(alloc, size, &bytes, &[], 4_000, 4_000_000)
 }
 
-// A body of one mini-transaction: these ranges, each of bytes of one value.
+// A body of one mini-transaction: these ranges, each of bytes of one value, at most 65,535 of them.
 fn body(alloc: Global, ranges: &[(u8, u16, u16, u8)]) -> Result<Vec<u8>, AllocError> {
+    let Ok(count) = u16::try_from(ranges.len()) else {
+        return Err(AllocError);
+    };
     let mut body = Vec::new(alloc);
-    body.extend_from_slice(&(ranges.len() as u16).to_be_bytes())?;
+    body.extend_from_slice(&count.to_be_bytes())?;
     for (page, at, len, value) in ranges {
         body.extend_from_slice(&[0, 0, 0, *page])?;
         body.extend_from_slice(&at.to_be_bytes())?;
@@ -84,6 +88,26 @@ fn told(alloc: Global, world: &mut MemWorld) -> Result<Told, AllocError> {
         }
     }
     Ok(None)
+}
+
+// What the log tells after a stop within a call.
+fn told_after_a_stop(
+    alloc: Global,
+    world: &MemWorld,
+    call: u64,
+    kept: u64,
+    fill: u8,
+) -> Result<Told, AllocError>
+    requires { (0 < call) × (call ≤ length world.now.log.calls) }
+{
+    let image = world.image_at(alloc, call, kept, fill)?;
+    match image.get(LOG_START..) {
+        Some(log) => {
+            let mut left = disk(alloc, log, SMALL_BYTES)?;
+            told(alloc, &mut left)
+        }
+        None => Ok(None),
+    }
 }
 
 // The log at the front of a disk, as its bytes and what it tells.
@@ -181,13 +205,12 @@ fn a_stop_leaves_one_batch_or_both(rt: HostRuntime) -> Result<(), Fail> {
         }
         for kept in [0, 1, 1_000] {
             for fill in [0, 1, 9] {
-                let image = world.image_at(alloc, call, kept, fill)?;
-                let mut left = disk(alloc, &image[LOG_START..], SMALL_BYTES)?;
-                let found = told(alloc, &mut left)?;
+                let found = told_after_a_stop(alloc, &world, call, kept, fill)?;
                 assert!(rt; found.is_some());
                 if let Some(found) = &found {
                     assert!(rt; found.as_slice() == one || found.as_slice() == both);
-                    opened += usize::from(found.as_slice() == both);
+                    let has_both = usize::from(found.as_slice() == both);
+                    opened = usize::saturating_add(opened, has_both);
                 }
             }
         }
@@ -219,7 +242,7 @@ fn a_closed_gate_is_left_alone(rt: HostRuntime) -> Result<(), Fail> {
     if world.sync() == Ok(()) {
         let before = world.calls();
         assert_eq!(rt; log.reset(&mut world), Ok(()));
-        assert_eq!(rt; world.calls(), before + 2);
+        assert_eq!(rt; world.calls().checked_sub(before), Some(2));
     }
     assert_eq!(rt; log.end, 0);
     assert_eq!(rt; start(&mut world), Some(Log { end: 0 }));

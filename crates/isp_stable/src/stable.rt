@@ -7,7 +7,7 @@ ghost use Rattle.isp_format.specs.Contents.{ranges_of};
 ghost use Rattle.isp_format.specs.Doublewrite.{AreDistinct, most_copies};
 ghost use Rattle.isp_format.specs.Log.{IsBody, Transaction, log_bytes, log_of};
 ghost use Rattle.isp_format.specs.Ranges.{Range, cover, page_bytes, page_of, puts};
-ghost use Rattle.isp_redo.specs.Places.{IsAt, LiesInPage, TakesRange, place_of};
+ghost use Rattle.isp_redo.specs.Places.{IsAt, IsFurther, LiesInPage, TakesRange, place_of};
 ghost use Rattle.isp_redo.specs.Reading.{OnlyReads};
 ghost use Rattle.isp_stable.specs.File.{HasBatches, IsFile, KeepsShape, StandsOnly, flushed, placed};
 
@@ -56,6 +56,7 @@ impl<W: World> Stable<W> {
             → IsAt self.old.pages (log_of (W.image self.old.world)) (place_of from) ranges
             → IfOk result (λ found. TakesRange self.old.pages (log_of (W.image self.old.world)) ranges into.new found) }
         ensures in_page { IfOk result (λ found. LiesInPage found) }
+        ensures onward { IfOk result (λ found. IsFurther from found) }
         ensures stops { IsSome (W.printed self.old.world) → (file : IsFile W.World self.old)
             → StandsOnly W.World self.old.world self.new.world (λ contents. contents ≡ flushed W.World self.old file.batches) }
         ensures same { W.image self.new.world ≡ W.image self.old.world }

@@ -26,11 +26,12 @@ seeking-preserved g c =
       goes.1,
       goes.2,
       goes.3,
+      omega (arith, inv.5, goes.0),
       λ tells pages few ranges is.
           let tells_mid : IsSome (w.printed mid) = subst (λ (p : Option (List ℕ)). IsSome p) (sym inv.0.told) tells in
           let leads = subst (λ (o : Option Place). LeadsOn pages (log_of (w.image mid)) here o) c.in-Some.is (c.in_ok-next.ensures.leads tells_mid pages few) in
           let none : c.seeking.place.left ≡ 0 = c.seeking-test.true in
-          let at : IsAt pages (log_of (w.image old)) here ranges = subst (λ (n : ℕ). IsAt pages (log_of (w.image old)) (record { at = c.seeking.place.at; left = n; end = c.seeking.place.end }) ranges) none (inv.5 tells pages few ranges is) in
+          let at : IsAt pages (log_of (w.image old)) here ranges = subst (λ (n : ℕ). IsAt pages (log_of (w.image old)) (record { at = c.seeking.place.at; left = n; end = c.seeking.place.end }) ranges) none (inv.6 tells pages few ranges is) in
           subst (λ (i : Image). IsAt pages (log_of i) c.in-Some.next ranges) inv.0.same (leads ranges (subst (λ (i : Image). IsAt pages (log_of i) here ranges) (sym inv.0.same) at)),
     )
 
@@ -44,5 +45,5 @@ returns-in-None-clause-found g c tells pages few ranges is =
     let tells_mid : IsSome (w.printed mid) = subst (λ (p : Option (List ℕ)). IsSome p) (sym inv.0.told) tells in
     let leads = subst (λ (o : Option Place). LeadsOn pages (log_of (w.image mid)) here o) c.in-None.is (c.in_ok-next.ensures.leads tells_mid pages few) in
     let none : c.seeking.place.left ≡ 0 = c.seeking-test.true in
-    let at : IsAt pages (log_of (w.image old)) here ranges = subst (λ (n : ℕ). IsAt pages (log_of (w.image old)) (record { at = c.seeking.place.at; left = n; end = c.seeking.place.end }) ranges) none (inv.5 tells pages few ranges is) in
+    let at : IsAt pages (log_of (w.image old)) here ranges = subst (λ (n : ℕ). IsAt pages (log_of (w.image old)) (record { at = c.seeking.place.at; left = n; end = c.seeking.place.end }) ranges) none (inv.6 tells pages few ranges is) in
     leads ranges (subst (λ (i : Image). IsAt pages (log_of i) here ranges) (sym inv.0.same) at)
