@@ -1,5 +1,5 @@
 //! The body of a batch with one mini-transaction.
-ghost use Rattle.std.specs.Prelude.{◌≡◌, ◌+◌, ◌<◌, ◌≤◌, ◌++◌, [], ℕ, List, IfOk, length, vec_capacity};
+ghost use Rattle.std.specs.Prelude.{◌≡◌, ◌+◌, ◌≤◌, ◌++◌, [], IfOk, length, vec_capacity};
 ghost use Rattle.isp_format.specs.Log.{range_bytes};
 ghost use Rattle.isp_format.specs.Numbers.{bytes_of};
 ghost use Rattle.isp_format.specs.Ranges.{page_bytes};
@@ -20,12 +20,13 @@ pub struct Body {
 
 impl Model for Body {
     ghost use Rattle.std.specs.Prelude.{◌≤◌, ℕ, List, vec_capacity};
+    ghost use Rattle.isp_mini.specs.Extents.{largest_body};
 
     ghost Value = { List ℕ };
 
     ghost view = { λ b. b.bytes.items };
 
-    ghost invariant = { λ b. 196994 ≤ vec_capacity b.bytes };
+    ghost invariant = { λ b. largest_body ≤ vec_capacity b.bytes };
 }
 
 impl Body {
@@ -41,7 +42,8 @@ impl Body {
     pub fn begin(&mut self, count: u16)
         ensures { self.new ≡ bytes_of 2 count }
     {
-        unreachable!()
+        self.bytes.clear();
+        append(&mut self.bytes, &count.to_be_bytes());
     }
 
     /// Spells one more range: bytes of a page from `at` on.
@@ -50,7 +52,11 @@ impl Body {
         requires room { length self.old + 8 + length bytes.now ≤ largest_body }
         ensures { self.new ≡ self.old ++ range_bytes (record { page = page.0; at = at; bytes = bytes.now }) }
     {
-        unreachable!()
+        let len = bytes.len() as u16;
+        append(&mut self.bytes, &page.0.to_be_bytes());
+        append(&mut self.bytes, &at.to_be_bytes());
+        append(&mut self.bytes, &len.to_be_bytes());
+        append(&mut self.bytes, bytes);
     }
 
     /// Its bytes.
@@ -58,5 +64,25 @@ impl Body {
         ensures { result.now ≡ self.now }
     {
         self.bytes.as_slice()
+    }
+
+    /// How many bytes it has.
+    pub fn len(&self) -> usize
+        ensures { result ≡ length self.now }
+    {
+        self.bytes.len()
+    }
+}
+
+// Puts a piece behind the bytes.
+fn append(bytes: &mut Vec<u8>, piece: &[u8])
+    requires { length bytes.old.items + length piece.now ≤ vec_capacity bytes.old }
+    ensures appended { bytes.new.items ≡ bytes.old.items ++ piece.now }
+    ensures capacity { vec_capacity bytes.old ≤ vec_capacity bytes.new }
+{
+    match bytes.extend_from_slice(piece) {
+        Ok(()) => {}
+        // There is room for it.
+        Err(_) => unreachable!(),
     }
 }

@@ -6,6 +6,8 @@
 
 mod body;
 mod changes;
+#[cfg(test)]
+mod tests;
 
-pub use body::Body;
+pub use body::{Body, LARGEST_BODY};
 pub use changes::{Changes, Extent};

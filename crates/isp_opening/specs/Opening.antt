@@ -1,6 +1,6 @@
 -- What opening a file finds: the first of the first three page rules that an image breaks, or what it stands for.
-use Rattle.std.specs.Prelude.{◌≡◌, ◌⊎◌, ℕ, List, Option}
-use Rattle.isp_disk.specs.Moments.{Image, Region, Agree, LeavesOnly, Quiet}
+use Rattle.std.specs.Prelude.{◌≡◌, ◌⊎◌, ℕ, zero, suc, List, Option}
+use Rattle.isp_disk.specs.Moments.{Image, Region, Agree}
 use Rattle.isp_disk.specs.declared.world.World.{Ghosts}
 use Rattle.isp_format.specs.Contents.{HasLog, StandsFor}
 use Rattle.isp_format.specs.Control.{IsControl, pages_in}
@@ -13,10 +13,11 @@ use Rattle.isp_stable.specs.declared.stable.Stable.{Stable}
 
 -- the first page rule that the image breaks is this one
 abbrev pub BreaksFirst : ℕ → Image → Type 0
-BreaksFirst 1 image = IsControl image → ⊥
-BreaksFirst 2 image = IsControl image × (HasCopies (pages_in image) image → ⊥)
-BreaksFirst 3 image = IsControl image × HasCopies (pages_in image) image × (HasLog (pages_in image) image → ⊥)
-BreaksFirst rule image = ⊥
+BreaksFirst zero image = ⊥
+BreaksFirst (suc zero) image = IsControl image → ⊥
+BreaksFirst (suc (suc zero)) image = IsControl image × (HasCopies (pages_in image) image → ⊥)
+BreaksFirst (suc (suc (suc zero))) image = IsControl image × HasCopies (pages_in image) image × (HasLog (pages_in image) image → ⊥)
+BreaksFirst (suc (suc (suc (suc rule)))) image = ⊥
 
 -- a stop leaves what one could leave as the call began, or contents that the image stood for then
 abbrev pub LeftOpening : Region → Image → Option (List ℕ) → Image → Option (List ℕ) → Type 0
@@ -28,7 +29,7 @@ module _ {W : Type 0} (g : Ghosts W) where
   pub record IsOpened (old : W) (s : Stable W) : Type 0 where
     pub contents : Contents
     pub stood : StandsFor (g.image old) contents
-    pub file : IsFile s
+    pub file : IsFile g s
     pub stands : flushed g s file.batches ≡ contents
 
   -- why it was not: a rule that the image breaks, which is named with page 0, and nothing was written
