@@ -22,3 +22,9 @@ pub record IsMade (pages fanout : ℕ) (image : Image) : Type 0 where
 abbrev pub LeftMaking : ℕ → ℕ → Region → Image → Option (List ℕ) → Image → Option (List ℕ) → Type 0
 LeftMaking pages fanout pending before told left said =
     (Agree (either pending (in_range made_gate 1)) before left ⊎ ((left made_gate ≢ 1) ⊎ IsMade pages fanout left)) × (said ≡ told)
+
+-- Where the made-gate was no 1 it isn't written before all else is durable: a stop leaves what stood there, its made-gate
+-- too, or no file, or the whole one.
+abbrev pub LeftWhereClosed : ℕ → ℕ → Region → Image → Option (List ℕ) → Image → Option (List ℕ) → Type 0
+LeftWhereClosed pages fanout pending before told left said =
+    (Agree pending before left ⊎ ((left made_gate ≢ 1) ⊎ IsMade pages fanout left)) × (said ≡ told)
