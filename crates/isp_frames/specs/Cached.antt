@@ -1,5 +1,5 @@
 -- A file whose pages are cached in frames.
-use Rattle.std.specs.Prelude.{◌≡◌, ℕ, List}
+use Rattle.std.specs.Prelude.{◌≡◌, List}
 use Rattle.isp_disk.specs.Moments.{Agree, either}
 use Rattle.isp_disk.specs.declared.world.World.{Ghosts}
 use Rattle.isp_format.specs.Contents.{ranges_of}
@@ -7,7 +7,6 @@ use Rattle.isp_format.specs.Log.{Transaction}
 use Rattle.isp_format.specs.Ranges.{Contents, cover}
 use Rattle.isp_frames.specs.Held.{AreClean, now_over, pinned_places}
 use Rattle.isp_frames.specs.declared.cache.Cache.{Cache}
-use Rattle.isp_pool.specs.Frames.{PoolState}
 use Rattle.isp_stable.specs.File.{IsFile, flushed, placed}
 
 module _ {W : Type 0} (g : Ghosts W) where

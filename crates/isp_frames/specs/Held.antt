@@ -1,10 +1,10 @@
 -- What the frames of a pool hold over the pages that stand in their places.
-use Rattle.std.specs.Prelude.{◌≡◌, ◌≢◌, ◌⊎◌, ℕ, ◌*◌, ◌<◌, Bool, true, false, not, List, [], ◌∷◌, ◌++◌, Option, Some, None, length}
+use Rattle.std.specs.Prelude.{◌≡◌, ◌≢◌, ◌⊎◌, ℕ, ◌*◌, ◌<◌, Bool, true, false, List, [], ◌∷◌, Option, Some, None, length}
 use Rattle.isp_disk.specs.Moments.{Region, either, in_range, no_place}
 use Rattle.isp_format.specs.Ranges.{Contents, Range, page_bytes, page_of, puts}
 use Rattle.isp_page.specs.declared.page.Page.{Page}
 use Rattle.isp_page.specs.declared.page.PageNo.{PageNo}
-use Rattle.isp_pool.specs.Frames.{PoolState, content_of, frame_at, frame_in, is_held, is_pinned, loaded, page_of as page_in, used, victim_of}
+use Rattle.isp_pool.specs.Frames.{PoolState, frame_at, frame_in, is_pinned, loaded, page_of as page_in, used, victim_of, with_frame}
 use Rattle.isp_pool.specs.declared.frames.Frame.{Frame}
 
 -- the page of a frame as a range, whole
@@ -59,3 +59,18 @@ pub record IsCleaned (old new : PoolState) : Type 0 where
   pub count : length new.frames ≡ length old.frames
   pub recent : new.recent ≡ old.recent
   pub frames : (i : ℕ) → but_dirty (frame_at new i) ≡ but_dirty (frame_at old i)
+
+-- the page in a frame with its number
+abbrev pub numbered : Option Frame → Option (PageNo × Page)
+numbered None = None
+numbered (Some frame) = Some (frame.page, frame.content)
+
+-- the pool after a frame was cleaned
+abbrev pub cleaned_at : PoolState → ℕ → PoolState
+cleaned_at s i = with_frame s i (λ f. record f { dirty = false })
+
+-- the frame is the one that is next to go
+pub record IsRoom (i : ℕ) (s : PoolState) : Type 0 where
+  pub next : victim_of s ≡ Some i
+  pub within : i < length s.frames
+  pub unpinned : is_pinned (frame_at s i) ≡ false

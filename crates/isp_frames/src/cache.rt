@@ -1,10 +1,10 @@
 //! The frames over the file.
-ghost use Rattle.std.specs.Prelude.{◌≡◌, ◌≢◌, ◌+◌, ◌<◌, ◌≤◌, false, count_by, length, vec_capacity, IfOk, IsSome, OnOk, Some};
+ghost use Rattle.std.specs.Prelude.{◌≡◌, ◌≢◌, ℕ, ◌<◌, true, false, count_by, length, vec_capacity, IfOk, IsSome, OnOk, Some};
 ghost use Rattle.isp_disk.specs.Moments.{Quiet};
 ghost use Rattle.isp_disk.specs.Outside.{HasCause};
 ghost use Rattle.isp_frames.specs.Cached.{IsCached, KeepsCached};
-ghost use Rattle.isp_frames.specs.Held.{AreBelow, IsHeldAt};
-ghost use Rattle.isp_pool.specs.Frames.{frame_at, is_pinned, page_of as page_in};
+ghost use Rattle.isp_frames.specs.Held.{AreBelow, IsHeldAt, IsRoom, cleaned_at, numbered};
+ghost use Rattle.isp_pool.specs.Frames.{frame_at, is_dirty, is_held, is_pinned, loaded, page_of as page_in};
 ghost use Rattle.isp_stable.specs.File.{KeepsShape, StandsOnly, flushed};
 
 use isp_disk::{Failed, World};
@@ -48,14 +48,96 @@ impl<W: World> Cache<W> {
             self.pool.used(frame);
             return Ok(frame);
         }
+        let frame = self.make_room()?;
+        self.read_into(frame, p)?;
+        Ok(frame)
+    }
+
+    // The frame that is next to go, clean: its page is written in place if it is dirty.
+    fn make_room(&mut self) -> Result<usize, Failed>
+        requires quiet { Quiet (W.pending self.old.stable.world) }
+        requires below { AreBelow self.old.stable.pages self.old.pool.frames }
+        requires unpinned { count_by is_pinned self.old.pool.frames < length self.old.pool.frames }
+        requires cached { IsSome (W.printed self.old.stable.world) → IsCached W.World self.old }
+        ensures keeps { IsSome (W.printed self.old.stable.world) → (cached : IsCached W.World self.old)
+            → OnOk result (KeepsCached W.World self.old self.new cached.file.batches) }
+        ensures frame { IfOk result (λ frame. IsRoom frame self.old.pool) }
+        ensures pool { IfOk result (λ frame. self.new.pool ≡ cleaned_at self.old.pool frame) }
+        ensures stops { IsSome (W.printed self.old.stable.world) → (cached : IsCached W.World self.old)
+            → StandsOnly W.World self.old.stable.world self.new.stable.world (λ contents. contents ≡ flushed W.World self.old.stable cached.file.batches) }
+        ensures log { self.new.stable.log ≡ self.old.stable.log }
+        ensures room { vec_capacity self.new.batch ≡ vec_capacity self.old.batch }
+        ensures quiet { OnOk result (Quiet (W.pending self.new.stable.world)) }
+        ensures shape { KeepsShape W.World self.old.stable self.new.stable }
+        ensures cause { HasCause (W.disk_faults self.old.stable.world) (W.disk_faults self.new.stable.world) result }
+    {
         let Some(frame) = self.pool.victim() else {
             unreachable!()
         };
         if self.pool.is_dirty(frame) {
-            return Err(Failed);
+            self.write_one(frame)?;
         }
-        self.stable.read_page(p, &mut self.page)?;
-        self.pool.load(frame, p, &self.page);
         Ok(frame)
     }
+
+    // Writes the page in a frame in place, as a batch of one. It is clean then.
+    fn write_one(&mut self, frame: usize) -> Result<(), Failed>
+        requires quiet { Quiet (W.pending self.old.stable.world) }
+        requires below { AreBelow self.old.stable.pages self.old.pool.frames }
+        requires held { is_held (frame_at self.old.pool frame) ≡ true }
+        requires unpinned { is_pinned (frame_at self.old.pool frame) ≡ false }
+        requires cached { IsSome (W.printed self.old.stable.world) → IsCached W.World self.old }
+        ensures keeps { IsSome (W.printed self.old.stable.world) → (cached : IsCached W.World self.old)
+            → OnOk result (KeepsCached W.World self.old self.new cached.file.batches) }
+        ensures pool { OnOk result (self.new.pool ≡ cleaned_at self.old.pool frame) }
+        ensures stops { IsSome (W.printed self.old.stable.world) → (cached : IsCached W.World self.old)
+            → StandsOnly W.World self.old.stable.world self.new.stable.world (λ contents. contents ≡ flushed W.World self.old.stable cached.file.batches) }
+        ensures log { self.new.stable.log ≡ self.old.stable.log }
+        ensures room { vec_capacity self.new.batch ≡ vec_capacity self.old.batch }
+        ensures quiet { OnOk result (Quiet (W.pending self.new.stable.world)) }
+        ensures shape { KeepsShape W.World self.old.stable self.new.stable }
+        ensures cause { HasCause (W.disk_faults self.old.stable.world) (W.disk_faults self.new.stable.world) result }
+    {
+        prove!(frame < self.pool.frames());
+        let one = [numbered_page(&self.pool, frame)];
+        self.stable.write_pages(&one)?;
+        self.pool.clean(frame);
+        Ok(())
+    }
+
+    // Reads a page that no frame holds into a frame that is free, or clean and unpinned.
+    fn read_into(&mut self, frame: usize, p: PageNo) -> Result<(), Failed>
+        requires quiet { Quiet (W.pending self.old.stable.world) }
+        requires within { frame < length self.old.pool.frames }
+        requires clean { is_dirty (frame_at self.old.pool frame) ≡ false }
+        requires unpinned { is_pinned (frame_at self.old.pool frame) ≡ false }
+        requires absent { (k : ℕ) → page_in (frame_at self.old.pool k) ≢ Some p }
+        ensures keeps { IsSome (W.printed self.old.stable.world) → (cached : IsCached W.World self.old)
+            → OnOk result (KeepsCached W.World self.old self.new cached.file.batches) }
+        ensures pool { OnOk result (self.new.pool ≡ loaded self.old.pool frame p self.new.page) }
+        ensures stops { IsSome (W.printed self.old.stable.world) → (cached : IsCached W.World self.old)
+            → StandsOnly W.World self.old.stable.world self.new.stable.world (λ contents. contents ≡ flushed W.World self.old.stable cached.file.batches) }
+        ensures log { self.new.stable.log ≡ self.old.stable.log }
+        ensures room { vec_capacity self.new.batch ≡ vec_capacity self.old.batch }
+        ensures quiet { Quiet (W.pending self.new.stable.world) }
+        ensures shape { KeepsShape W.World self.old.stable self.new.stable }
+        ensures cause { HasCause (W.disk_faults self.old.stable.world) (W.disk_faults self.new.stable.world) result }
+    {
+        prove!(frame < self.pool.frames());
+        self.stable.read_page(p, &mut self.page)?;
+        self.pool.load(frame, p, &self.page);
+        Ok(())
+    }
+}
+
+// The page in a frame, with its number.
+pub(crate) fn numbered_page(pool: &Pool, frame: usize) -> (PageNo, Page)
+    requires held { is_held (frame_at pool.now frame) ≡ true }
+    requires within { frame < length pool.now.frames }
+    ensures { Some result ≡ numbered (frame_at pool.now frame) }
+{
+    let Some(number) = pool.holds(frame) else {
+        unreachable!()
+    };
+    (number, *pool.page(frame))
 }
