@@ -1,4 +1,4 @@
-mod InPlace
-mod Leaving
+pub mod InPlace
+pub mod Leaving
 mod Numbered
 mod Staging

@@ -1,0 +1,183 @@
+-- A cache before and after a call, over any world.
+use Rattle.std.proofs.Common.{◌≡◌, ◌∙◌, ◌+◌, ◌*◌, ◌≤◌, ◌||◌, true, false, List, ℕ, Option, Some, refl, sym, ap, subst, length, map, set, set-set}
+use Rattle.std.specs.Option.{option_map}
+use Rattle.isp_disk.specs.Moments.{Agree, Image, Quiet, Region, Within, either, put}
+use Rattle.isp_disk.specs.declared.world.World.{Ghosts}
+use Rattle.isp_disk.proofs.Moments.{chains, started, widens}
+use Rattle.isp_doublewrite.specs.Batches.{whole_page}
+use Rattle.isp_format.specs.Contents.{ranges_of}
+use Rattle.isp_format.specs.Control.{IsControl, fanout_in, pages_in}
+use Rattle.isp_format.specs.Doublewrite.{area, doublewrite_gate}
+use Rattle.isp_format.specs.Log.{IsLog, Transaction, log_of}
+use Rattle.isp_format.specs.Ranges.{Contents, cover, page_bytes, puts}
+use Rattle.isp_format.proofs.Places.{neither, not_first, not_second}
+use Rattle.isp_format.proofs.Puts.{mixes}
+use Rattle.isp_format.proofs.Slices.{put_outside}
+use Rattle.isp_frames.specs.Cached.{IsCached, KeepsCached, now}
+use Rattle.isp_frames.specs.Gathered.{IsGathered}
+use Rattle.isp_frames.specs.Held.{AreClean, cleaned_at, now_over, page_places, pinned_places}
+use Rattle.isp_frames.specs.declared.cache.Cache.{Cache}
+use Rattle.isp_page.specs.declared.page.Page.{Page}
+use Rattle.isp_page.specs.declared.page.PageNo.{PageNo}
+use Rattle.isp_pool.specs.declared.frames.Frame.{Frame}
+use Rattle.isp_pool.specs.Frames.{IsPool, PoolState, changed, edited, frame_at, frame_in, fresh_frame, is_pinned, loaded, used, with_frame}
+use Rattle.isp_stable.specs.File.{HasBatches, IsFile, KeepsShape, StandsOnly, flushed, placed}
+use Rattle.isp_stable.specs.declared.stable.Stable.{Stable}
+use Rattle.isp_stable.proofs.Files.{beside, file_of, reads_only}
+use Rattle.isp_frames.proofs.HeldLaws.{change_now, change_pins}
+use Rattle.isp_frames.proofs.NowLaws.{IsLoading, changed_clean, flagged_now, loaded_clean, loaded_now, overwrite, pinned_clean, pool_apart, range_outside}
+use Rattle.isp_frames.proofs.PinLaws.{out_of_pinned, pinned_one, unpinned_set}
+
+-- outside of what the log and pinned pages cover nothing differs, after other words for the same
+covered_same : (region pins pins_now : Region) (before contents before_now contents_now : Contents) → Within pins pins_now → before_now ≡ before → contents_now ≡ contents
+    → Agree (either region pins) before contents → Agree (either region pins_now) before_now contents_now
+covered_same region pins pins_now before contents before_now contents_now within b c covered place out =
+    let inner : either region pins place ≡ false = neither (region place) (pins place) (not_first (region place) (pins_now place) out) (within place (not_second (region place) (pins_now place) out)) in
+    (λ i. b i place) ∙ covered place inner ∙ (λ i. sym c i place)
+
+within_same : (pins pins_now : Region) → pins_now ≡ pins → Within pins pins_now
+within_same pins pins_now same place out = (λ i. sym same i place) ∙ out
+
+-- a page is loaded as it would be had its frame not been cleaned before
+pub loaded_cleaned : (s : PoolState) (i : ℕ) (p : PageNo) (page : Page) → loaded (cleaned_at s i) i p page ≡ loaded s i p page
+loaded_cleaned s i p page =
+    let clean : Frame → Frame = λ f. record f { dirty = false } in
+    ap (λ (frames : List (Option Frame)). let t : PoolState = record { frames = frames; recent = (loaded s i p page).recent } in t)
+    (set-set s.frames i (option_map clean (frame_in s.frames i)) (Some (fresh_frame p page)))
+
+module _ {W : Type 0} (g : Ghosts W) where
+  -- the file after calls that wrote nothing
+  pub file_same : (s t : Stable W) (file : IsFile g s) → g.image t.world ≡ g.image s.world → t.log ≡ s.log → KeepsShape g s t → HasBatches g t file.batches
+  file_same s t file image log shape =
+      let is = beside g s file in
+      let end : t.log.end ≡ s.log.end = λ i. (log i).end in
+      file_of g t file.batches (record {
+        control = subst IsControl (sym image) is.control;
+        pages_are = ap pages_in image ∙ is.pages_are ∙ sym shape.pages;
+        fanout_is = ap fanout_in image ∙ is.fanout_is ∙ sym shape.fanout;
+        closed = λ one. is.closed ((λ i. sym image i doublewrite_gate) ∙ one);
+      })
+      (subst (λ (pages : ℕ). IsLog pages (log_of (g.image t.world)) 0 file.batches t.log.end) (sym shape.pages)
+      (subst (λ (im : Image). IsLog s.pages (log_of im) 0 file.batches t.log.end) (sym image)
+      (subst (λ (n : ℕ). IsLog s.pages (log_of (g.image s.world)) 0 file.batches n) (sym end) file.log)))
+
+  -- pages in their places as they were, frames that give the same contents over them, and no fewer pinned pages
+  pub cached_same : (old new : Cache W) (cached : IsCached g old) → HasBatches g new.stable cached.file.batches → placed g new.stable ≡ placed g old.stable
+      → AreClean new.pool.frames (placed g old.stable) → Within (pinned_places old.pool.frames) (pinned_places new.pool.frames) → now_over new.pool.frames (placed g old.stable) ≡ now g old
+      → KeepsCached g old new cached.file.batches
+  cached_same old new cached has place clean pins same =
+      let contents : now g new ≡ now g old = ap (now_over new.pool.frames) place ∙ same in
+      let made : IsCached g new = record {
+        file = has.0;
+        clean = subst (AreClean new.pool.frames) (sym place) clean;
+        covered = subst (λ (batches : List (List Transaction)). Agree (either (cover (ranges_of batches)) (pinned_places new.pool.frames)) (placed g new.stable) (now g new)) (sym has.1)
+            (covered_same (cover (ranges_of cached.file.batches)) (pinned_places old.pool.frames) (pinned_places new.pool.frames)
+            (placed g old.stable) (now g old) (placed g new.stable) (now g new) pins place contents cached.covered);
+      } in
+      (made, has.1, ap (puts (ranges_of cached.file.batches)) place, contents)
+
+  pub used_keeps : (old new : Cache W) (cached : IsCached g old) (i : ℕ) → new.stable ≡ old.stable → new.pool ≡ used old.pool i → KeepsCached g old new cached.file.batches
+  used_keeps old new cached i stable pool =
+      let frames : old.pool.frames ≡ new.pool.frames = sym (ap (λ (s : PoolState). s.frames) pool) in
+      cached_same old new cached (subst (λ (s : Stable W). HasBatches g s cached.file.batches) (sym stable) (cached.file, refl)) (ap (placed g) stable)
+      (subst (λ (fs : List (Option Frame)). AreClean fs (placed g old.stable)) frames cached.clean) (within_same (pinned_places old.pool.frames) (pinned_places new.pool.frames) (ap pinned_places (sym frames)))
+      (ap (λ (fs : List (Option Frame)). now_over fs (placed g old.stable)) (sym frames))
+
+  pub loaded_keeps : (old new : Cache W) (cached : IsCached g old) (i : ℕ) (p : PageNo) (page : Page) → IsPool old.pool
+      → g.image new.stable.world ≡ g.image old.stable.world → new.stable.log ≡ old.stable.log → KeepsShape g old.stable new.stable
+      → IsLoading old.pool.frames (placed g old.stable) i p page → is_pinned (frame_at old.pool i) ≡ false → new.pool ≡ loaded old.pool i p page → KeepsCached g old new cached.file.batches
+  loaded_keeps old new cached i p page kept image log shape l flag pool =
+      let apart = pool_apart old.pool kept in
+      let frames : set old.pool.frames i (Some (fresh_frame p page)) ≡ new.pool.frames = sym (ap (λ (s : PoolState). s.frames) pool) in
+      cached_same old new cached (file_same old.stable new.stable cached.file image log shape) (ap area image)
+      (subst (λ (fs : List (Option Frame)). AreClean fs (placed g old.stable)) frames (loaded_clean old.pool.frames (placed g old.stable) i p page cached.clean l))
+      (within_same (pinned_places old.pool.frames) (pinned_places new.pool.frames) (ap pinned_places (sym frames) ∙ unpinned_set old.pool.frames i (fresh_frame p page) l.below flag refl))
+      (ap (λ (fs : List (Option Frame)). now_over fs (placed g old.stable)) (sym frames) ∙ loaded_now old.pool.frames (placed g old.stable) i p page apart cached.clean l)
+
+  -- the page in a frame was pinned
+  pub pinned_keeps : (old new : Cache W) (cached : IsCached g old) (i : ℕ) (f : Frame) → frame_at old.pool i ≡ Some f → new.stable ≡ old.stable → new.pool ≡ with_frame old.pool i (λ h. record h { pinned = true })
+      → KeepsCached g old new cached.file.batches
+  pinned_keeps old new cached i f e stable pool =
+      let pin : Frame → Frame = λ h. record h { pinned = true } in
+      let place = placed g old.stable in
+      let frames : edited old.pool.frames i pin ≡ new.pool.frames = sym (ap (λ (s : PoolState). s.frames) pool) in
+      cached_same old new cached (subst (λ (s : Stable W). HasBatches g s cached.file.batches) (sym stable) (cached.file, refl)) (ap (placed g) stable)
+      (subst (λ (fs : List (Option Frame)). AreClean fs place) frames (pinned_clean old.pool.frames place i f true e cached.clean))
+      (λ spot out.
+      let its : (page_places f.page.0 spot || pinned_places old.pool.frames spot) ≡ false = (λ j. sym (pinned_one old.pool.frames i f e) j spot) ∙ (λ j. pinned_places (frames j) spot) ∙ out in
+      not_second (page_places f.page.0 spot) (pinned_places old.pool.frames spot) its)
+      (ap (λ (fs : List (Option Frame)). now_over fs place) (sym frames) ∙ flagged_now old.pool.frames place i f pin e refl)
+
+  -- bytes of a pinned page were changed
+  pub changed_cached : (old new : Cache W) (cached : IsCached g old) (i at : ℕ) (bytes : List ℕ) (f : Frame) → IsPool old.pool → frame_at old.pool i ≡ Some f → f.pinned ≡ true → at + length bytes ≤ 4096
+      → new.stable ≡ old.stable → new.pool ≡ changed old.pool i at bytes
+      → (after : IsCached g new) × (after.file.batches ≡ cached.file.batches) × (flushed g new.stable cached.file.batches ≡ flushed g old.stable cached.file.batches) × (now g new ≡ put (now g old) (f.page.0 * page_bytes + at) bytes)
+  changed_cached old new cached i at bytes f kept e flag fits stable pool =
+      let place = placed g old.stable in
+      let frames : edited old.pool.frames i (overwrite at bytes) ≡ new.pool.frames = sym (ap (λ (s : PoolState). s.frames) pool) in
+      let same : placed g new.stable ≡ place = ap (placed g) stable in
+      let start = f.page.0 * page_bytes + at in
+      let contents : now g new ≡ put (now g old) start bytes =
+      ap (now_over new.pool.frames) same ∙ ap (λ (fs : List (Option Frame)). now_over fs place) (sym frames) ∙ change_now old.pool place i at bytes f kept e fits in
+      let has : HasBatches g new.stable cached.file.batches = subst (λ (s : Stable W). HasBatches g s cached.file.batches) (sym stable) (cached.file, refl) in
+      let pins : pinned_places new.pool.frames ≡ pinned_places old.pool.frames = ap pinned_places (sym frames) ∙ change_pins old.pool i at bytes f e in
+      let log = cover (ranges_of cached.file.batches) in
+      let covered : Agree (either log (pinned_places old.pool.frames)) place (put (now g old) start bytes) = λ spot out.
+      cached.covered spot out ∙ sym (put_outside (now g old) start bytes spot (range_outside f.page.0 at (length bytes) spot fits
+      (out_of_pinned old.pool.frames i f e flag spot (not_second (log spot) (pinned_places old.pool.frames spot) out)))) in
+      let made : IsCached g new = record {
+        file = has.0;
+        clean = subst (AreClean new.pool.frames) (sym same) (subst (λ (fs : List (Option Frame)). AreClean fs place) frames (changed_clean old.pool.frames place i at bytes f e cached.clean));
+        covered = subst (λ (batches : List (List Transaction)). Agree (either (cover (ranges_of batches)) (pinned_places new.pool.frames)) (placed g new.stable) (now g new)) (sym has.1)
+            (covered_same log (pinned_places old.pool.frames) (pinned_places new.pool.frames) place (put (now g old) start bytes) (placed g new.stable) (now g new)
+            (within_same (pinned_places old.pool.frames) (pinned_places new.pool.frames) pins) same contents covered);
+      } in
+      (made, has.1, ap (puts (ranges_of cached.file.batches)) same, contents)
+
+  -- a batch of pages was written in place
+  pub gathered_keeps : (old new : Cache W) (cached : IsCached g old) (batch : List (PageNo × Page)) → HasBatches g new.stable cached.file.batches → placed g new.stable ≡ puts (map whole_page batch) (placed g old.stable)
+      → IsGathered old.pool.frames new.pool.frames (placed g old.stable) (cover (ranges_of cached.file.batches)) batch → KeepsCached g old new cached.file.batches
+  gathered_keeps old new cached batch has place gathered =
+      let log = ranges_of cached.file.batches in
+      let contents : now g new ≡ now g old = ap (now_over new.pool.frames) place ∙ gathered.contents in
+      let made : IsCached g new = record {
+        file = has.0;
+        clean = subst (AreClean new.pool.frames) (sym place) gathered.clean;
+        covered = subst (λ (batches : List (List Transaction)). Agree (either (cover (ranges_of batches)) (pinned_places new.pool.frames)) (placed g new.stable) (now g new)) (sym has.1)
+            (λ spot out.
+            let before : either (cover log) (pinned_places old.pool.frames) spot ≡ false = (λ i. cover log spot || sym gathered.pins i spot) ∙ out in
+            (λ i. place i spot) ∙ sym (gathered.agree spot (not_first (cover log spot) (pinned_places old.pool.frames spot) before)) ∙ cached.covered spot before ∙ (λ i. sym contents i spot));
+      } in
+      (made, has.1, ap (puts log) place ∙ mixes log (placed g old.stable) (puts (map whole_page batch) (placed g old.stable)) gathered.agree, contents)
+
+  -- one call behind another
+  pub shape_same : (s : Stable W) → KeepsShape g s s
+  shape_same s = record { pages = refl; fanout = refl; told = refl; printer = refl }
+
+  pub shape_twice : (old mid new : Stable W) → KeepsShape g old mid → KeepsShape g mid new → KeepsShape g old new
+  shape_twice old mid new first second = record {
+    pages = second.pages ∙ first.pages;
+    fanout = second.fanout ∙ first.fanout;
+    told = second.told ∙ first.told;
+    printer = second.printer ∙ first.printer;
+  }
+
+  pub keeps_twice : (old mid new : Cache W) (batches : List (List Transaction)) → KeepsCached g old mid batches → ((cached : IsCached g mid) → KeepsCached g mid new cached.file.batches) → KeepsCached g old new batches
+  keeps_twice old mid new batches first second =
+      let next = second first.0 in
+      (next.0, next.1 ∙ first.1, subst (λ (bs : List (List Transaction)). flushed g new.stable bs ≡ flushed g mid.stable bs) first.1 next.2 ∙ first.2, next.3 ∙ first.3)
+
+  pub stops_twice : (old mid new : Cache W) (batches : List (List Transaction)) → KeepsCached g old mid batches → KeepsShape g old.stable mid.stable
+      → StandsOnly g old.stable.world mid.stable.world (λ contents. contents ≡ flushed g old.stable batches)
+      → ((cached : IsCached g mid) → StandsOnly g mid.stable.world new.stable.world (λ contents. contents ≡ flushed g mid.stable cached.file.batches))
+      → StandsOnly g old.stable.world new.stable.world (λ contents. contents ≡ flushed g old.stable batches)
+  stops_twice old mid new batches keeps shape first second =
+      chains g.clock g.left_since old.stable.world mid.stable.world new.stable.world _ first
+      (widens g.clock g.left_since mid.stable.world new.stable.world _ _ (second keeps.0)
+      (λ left told has. ((has.0.0, has.0.1, has.0.2 ∙ ap (flushed g mid.stable) keeps.1 ∙ keeps.2), has.1 ∙ shape.told)))
+
+  -- no call at all
+  pub stands_still : (s : Stable W) (file : IsFile g s) → Quiet (g.pending s.world) → ((left : Image) (told : Option (List ℕ)) → g.left_since s.world (g.clock s.world) left told → Agree (g.pending s.world) (g.image s.world) left × (told ≡ g.printed s.world))
+      → StandsOnly g s.world s.world (λ contents. contents ≡ flushed g s file.batches)
+  stands_still s file quiet only =
+      reads_only g s file s.world (started g.clock g.left_since s.world _ (λ left told since. let now = only left told since in ((λ place out. now.0 place (quiet place)), now.1)))

@@ -1,0 +1,6 @@
+pub mod NowLaws
+pub mod PinLaws
+pub mod KeptLaws
+pub mod HeldLaws
+pub mod Gathering
+pub mod CacheLaws

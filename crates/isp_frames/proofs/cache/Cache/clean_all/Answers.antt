@@ -1,0 +1,48 @@
+use Rattle.std.proofs.Common.{◌∙◌, refl, sym, subst}
+use Rattle.std.specs.Prelude.{IsSome}
+use Rattle.isp_frames.proofs.CacheLaws.{keeps_twice, shape_same, shape_twice, stands_still, stops_twice}
+use Rattle.isp_frames.proofs.KeptLaws.{cleaned_none, cleaned_twice}
+use Rattle.isp_frames.proofs.cache.Cache.clean_all.Goals as goal
+
+pub cleaning-init : goal.cleaning-init
+cleaning-init g c = record {
+  keeps = λ tells cached. (cached, refl, refl, refl);
+  cleaned = cleaned_none c.args.self.now.pool;
+  stops = λ tells cached.
+      stands_still g.W.World c.args.self.now.stable cached.file c.requires.quiet (λ left told since. g.met.W.World.only_now c.args.self.now.stable.world left told since);
+  log = refl;
+  room = c.requires.room;
+  quiet = c.requires.quiet;
+  shape = shape_same g.W.World c.args.self.now.stable;
+  disk = refl;
+}
+
+pub clean_some-requires-clause-cached : goal.clean_some-requires-clause-cached
+clean_some-requires-clause-cached g c = λ tells.
+    let before = subst IsSome c.cleaning.invariant.shape.told tells in
+    (c.cleaning.invariant.keeps before (c.requires.cached before)).0
+
+pub cleaning-preserved : goal.cleaning-preserved
+cleaning-preserved g c =
+    let s = c.args.self.now in
+    let so_far = c.cleaning.invariant in
+    let more = c.in_ok-clean_some.ensures in
+    let new = c.clean_some.new.self in
+    record {
+      keeps = λ tells cached. keeps_twice g.W.World s c.cleaning.self new cached.file.batches (so_far.keeps tells cached) (λ mid. more.keeps (subst IsSome (sym so_far.shape.told) tells) mid);
+      cleaned = cleaned_twice s.pool c.cleaning.self.pool new.pool so_far.cleaned more.cleaned;
+      stops = λ tells cached. stops_twice g.W.World s c.cleaning.self new cached.file.batches (so_far.keeps tells cached) so_far.shape
+          (so_far.stops tells cached) (λ mid. more.stops (subst IsSome (sym so_far.shape.told) tells) mid);
+      log = more.log ∙ so_far.log;
+      room = more.room;
+      quiet = more.quiet;
+      shape = shape_twice g.W.World s.stable c.cleaning.self.stable new.stable so_far.shape more.shape;
+      disk = more.cause.steady ∙ so_far.disk;
+    }
+
+pub returns-in_err-clean_some-clause-stops : goal.returns-in_err-clean_some-clause-stops
+returns-in_err-clean_some-clause-stops g c = λ tells cached.
+    let s = c.args.self.now in
+    let so_far = c.cleaning.invariant in
+    stops_twice g.W.World s c.cleaning.self c.clean_some.new.self cached.file.batches (so_far.keeps tells cached) so_far.shape
+    (so_far.stops tells cached) (λ mid. c.clean_some.ensures.stops (subst IsSome (sym so_far.shape.told) tells) mid)

@@ -1,0 +1,47 @@
+use Rattle.std.proofs.Common.{◌∙◌, inr, refl, sym, ap, subst}
+use Rattle.std.specs.Prelude.{IsSome}
+use Rattle.isp_pool.specs.Frames.{PoolState, loaded}
+use Rattle.isp_frames.proofs.CacheLaws.{keeps_twice, loaded_cleaned, stands_still, stops_twice, used_keeps}
+use Rattle.isp_frames.proofs.cache.Cache.hold.Goals as goal
+
+pub returns-in-Some-clause-keeps : goal.returns-in-Some-clause-keeps
+returns-in-Some-clause-keeps g c = λ tells cached.
+    let s = c.args.self.now in
+    used_keeps g.W.World s (record { stable = s.stable; pool = c.used.new.self; batch = s.batch; page = s.page }) cached c.in-Some.frame refl c.used.ensures
+
+pub returns-in-Some-clause-stops : goal.returns-in-Some-clause-stops
+returns-in-Some-clause-stops g c = λ tells cached.
+    stands_still g.W.World c.args.self.now.stable cached.file c.requires.quiet (λ left told since. g.met.W.World.only_now c.args.self.now.stable.world left told since)
+
+pub returns-in_err-read_into-clause-stops : goal.returns-in_err-read_into-clause-stops
+returns-in_err-read_into-clause-stops g c = λ tells cached.
+    let room = c.in_ok-frame.ensures in
+    stops_twice g.W.World c.args.self.now c.make_room.new.self c.read_into.new.self cached.file.batches (room.keeps tells cached) room.shape
+    (room.stops tells cached) (λ mid. c.read_into.ensures.stops (subst IsSome (sym room.shape.told) tells) mid)
+
+pub returns-clause-stops : goal.returns-clause-stops
+returns-clause-stops g c = λ tells cached.
+    let room = c.in_ok-frame.ensures in
+    stops_twice g.W.World c.args.self.now c.make_room.new.self c.read_into.new.self cached.file.batches (room.keeps tells cached) room.shape
+    (room.stops tells cached) (λ mid. c.read_into.ensures.stops (subst IsSome (sym room.shape.told) tells) mid)
+
+pub returns-clause-keeps : goal.returns-clause-keeps
+returns-clause-keeps g c = λ tells cached.
+    let room = c.in_ok-frame.ensures in
+    keeps_twice g.W.World c.args.self.now c.make_room.new.self c.read_into.new.self cached.file.batches (room.keeps tells cached)
+    (λ mid. c.in_ok-read_into.ensures.keeps (subst IsSome (sym room.shape.told) tells) mid)
+
+pub returns-clause-held : goal.returns-clause-held
+returns-clause-held g c =
+    let s = c.args.self.now.pool in
+    let frame = c.in_ok-frame.frame in
+    let room = c.in_ok-frame.ensures in
+    let page = c.read_into.new.self.page in
+    inr (
+      page,
+      c.find.ensures.none c.in_default.is,
+      room.frame.next,
+      room.frame.unpinned,
+      room.frame.within,
+      c.in_ok-read_into.ensures.pool ∙ ap (λ (t : PoolState). loaded t frame c.args.p page) room.pool ∙ loaded_cleaned s frame c.args.p page,
+    )

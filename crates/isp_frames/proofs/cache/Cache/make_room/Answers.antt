@@ -1,0 +1,14 @@
+use Rattle.std.proofs.Common.{refl, arith}
+use Rattle.isp_frames.proofs.CacheLaws.{stands_still}
+use Rattle.isp_frames.proofs.PinLaws.{all_pinned}
+use Rattle.isp_frames.proofs.cache.Cache.make_room.Goals as goal
+
+pub unreachable-requires : goal.unreachable-requires
+unreachable-requires g c = omega (arith, all_pinned c.args.self.now.pool.frames (c.victim.ensures.none c.in_default.is), c.requires.unpinned)
+
+pub returns-else-is_dirty-clause-keeps : goal.returns-else-is_dirty-clause-keeps
+returns-else-is_dirty-clause-keeps g c = λ tells cached. (cached, refl, refl, refl)
+
+pub returns-else-is_dirty-clause-stops : goal.returns-else-is_dirty-clause-stops
+returns-else-is_dirty-clause-stops g c = λ tells cached.
+    stands_still g.W.World c.args.self.now.stable cached.file c.requires.quiet (λ left told since. g.met.W.World.only_now c.args.self.now.stable.world left told since)

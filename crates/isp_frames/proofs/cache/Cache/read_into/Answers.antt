@@ -1,0 +1,16 @@
+use Rattle.isp_frames.proofs.CacheLaws.{loaded_keeps}
+use Rattle.isp_frames.proofs.cache.Cache.read_into.Goals as goal
+
+pub returns-in_err-read_page-clause-stops : goal.returns-in_err-read_page-clause-stops
+returns-in_err-read_page-clause-stops g c = λ tells cached. c.read_page.ensures.stops tells cached.file
+
+pub returns-clause-stops : goal.returns-clause-stops
+returns-clause-stops g c = λ tells cached. c.read_page.ensures.stops tells cached.file
+
+pub returns-clause-keeps : goal.returns-clause-keeps
+returns-clause-keeps g c = λ tells cached.
+    let s = c.args.self.now in
+    loaded_keeps g.W.World s (record { stable = c.read_page.new.self; pool = c.load.new.self; batch = s.batch; page = c.read_page.new.into }) cached
+    c.args.frame c.args.p c.read_page.new.into c.frames.ensures.kept c.read_page.ensures.same c.read_page.ensures.log c.read_page.ensures.shape
+    (record { below = c.requires.within; clean = c.requires.clean; absent = c.requires.absent; read = c.in_ok-read_page.ensures.page tells })
+    c.requires.unpinned c.load.ensures

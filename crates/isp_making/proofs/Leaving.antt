@@ -1,0 +1,118 @@
+-- What a stop leaves in each step.
+use Rattle.std.proofs.Common.{◌≡◌, ◌≢◌, ◌⊎◌, inl, inr, ℕ, ◌+◌, ◌<◌, ◌^◌, List, [], Option, take, drop, refl, sym, ◌∙◌, ap, subst, arith}
+use Rattle.std.proofs.lemmas.Bool.{cases_eq}
+use Rattle.byteorder.specs.Endian.{big_number}
+use Rattle.byteorder.specs.Numbers.{big_number-reads_back}
+use Rattle.isp_disk.specs.Moments.{Image, Region, Agree, During, Elapses, LeavesOnly, Within, either, no_place, slice}
+use Rattle.isp_disk.proofs.Moments.{LeftOfPhase, Phase, agree_wider, chains, goes_on, nothing_told, started, widens, within_both}
+use Rattle.isp_format.specs.Contents.{StandsFor}
+use Rattle.isp_format.specs.Control.{IsControl, IsFanout, IsPages, fanout_in, file_name, made_gate, pages_in}
+use Rattle.isp_format.specs.Doublewrite.{area, area_place, doublewrite_gate}
+use Rattle.isp_format.specs.Log.{log_of}
+use Rattle.isp_format.specs.Ranges.{Range, puts}
+use Rattle.isp_format.proofs.Local.{copies_closed}
+use Rattle.isp_format.proofs.Places.{above, below}
+use Rattle.isp_format.proofs.Slices.{slice_agree}
+use Rattle.isp_making.specs.Making.{IsMade}
+use Rattle.isp_making.specs.Places.{IsWritten, content_places, control_bytes, made_place}
+
+-- the numbers of a control block
+
+name_is : (pages fanout : ℕ) (image : Image) → slice image 0 made_gate ≡ control_bytes pages fanout → slice image 0 8 ≡ file_name
+unfolding file_name
+name_is pages fanout image is = ap (take 8) is
+
+pages_are : (pages fanout : ℕ) (image : Image) → pages < 256 ^ 4 → slice image 0 made_gate ≡ control_bytes pages fanout → pages_in image ≡ pages
+unfolding file_name
+pages_are pages fanout image fits is = ap (λ (bytes : List ℕ). big_number 4 (take 4 (drop 8 bytes))) is ∙ big_number-reads_back 4 pages [] fits
+
+fanout_is : (pages fanout : ℕ) (image : Image) → fanout < 256 ^ 4 → slice image 0 made_gate ≡ control_bytes pages fanout → fanout_in image ≡ fanout
+unfolding file_name
+fanout_is pages fanout image fits is = ap (λ (bytes : List ℕ). big_number 4 (take 4 (drop 12 bytes))) is ∙ big_number-reads_back 4 fanout [] fits
+
+-- what is read beside the made-gate
+beside : (written now : Image) → Agree made_place written now → slice now 0 made_gate ≡ slice written 0 made_gate
+beside written now agree = slice_agree now written 0 made_gate (λ place low high. sym (agree place (below made_gate 1 place (omega (arith, high)))))
+
+-- a file without copies and without batches stands for its page area
+stands_for_area : (image : Image) → IsControl image → image doublewrite_gate ≡ 0 → log_of image 0 ≡ 0 → StandsFor image (area image)
+stands_for_area image control copies log =
+    let closed : image doublewrite_gate ≢ 1 = λ is. absurd (omega (arith, copies, is)) in
+    record {
+      control = control;
+      copies = λ is. absurd (closed is);
+      batches = [];
+      end = 0;
+      log = ((λ is. absurd (omega (arith, log, is))), refl);
+      contents_are = ap (λ (ranges : List Range). puts ranges (area image)) (sym (copies_closed image closed));
+    }
+
+-- the made-gate makes what is written a file
+pub made_by : (pages fanout : ℕ) (written now : Image) → IsPages pages → IsFanout fanout → IsWritten pages fanout written → Agree made_place written now → now made_gate ≡ 1 → IsMade pages fanout now
+made_by pages fanout written now many wide is agree gate =
+    let control : slice now 0 made_gate ≡ control_bytes pages fanout = beside written now agree ∙ is.control in
+    let pages_now : pages_in now ≡ pages = pages_are pages fanout now (omega (arith, many.1)) control in
+    let fanout_now : fanout_in now ≡ fanout = fanout_is pages fanout now (omega (arith, wide.1)) control in
+    let control_now : IsControl now = record {
+      name = name_is pages fanout now control;
+      made = gate;
+      pages = subst IsPages (sym pages_now) many;
+      fanout = subst IsFanout (sym fanout_now) wide;
+    } in
+    let copies : now doublewrite_gate ≡ 0 = sym (agree doublewrite_gate refl) ∙ is.copies in
+    let log : log_of now 0 ≡ 0 = sym (agree 266240 refl) ∙ is.log in
+    record {
+      control = control_now;
+      pages_are = pages_now;
+      fanout_is = fanout_now;
+      copies = copies;
+      log = log;
+      first = λ place less. sym (agree (area_place + place) (above made_gate 1 (area_place + place) (omega arith))) ∙ is.first place less;
+      stands = stands_for_area now control_now copies log;
+    }
+
+-- while it is written the made-gate is no 1, or the file is whole
+whole_or_none : (pages fanout : ℕ) (written left : Image) → IsPages pages → IsFanout fanout → IsWritten pages fanout written → Agree made_place written left → (left made_gate ≢ 1) ⊎ IsMade pages fanout left
+whole_or_none pages fanout written left many wide is agree = elim (cases_eq (left made_gate) 1) [
+  | inl gate ↦ inr (made_by pages fanout written left many wide is agree gate)
+  | inr shut ↦ inl shut
+]
+
+-- a stop leaves what agrees with the image from before outside a region, or no file, or the whole one
+abbrev pub LeftBy : ℕ → ℕ → Region → Image → Option (List ℕ) → Image → Option (List ℕ) → Type 0
+LeftBy pages fanout region before told left said =
+    (Agree region before left ⊎ ((left made_gate ≢ 1) ⊎ IsMade pages fanout left)) × (said ≡ told)
+
+-- one step behind the other, from any world on
+module _ {W : Type 0} (clock : W → ℕ) (left_since : W → ℕ → Image → Option (List ℕ) → Type 0) (image : W → Image) (pending : W → Region) (printed : W → Option (List ℕ)) (pages fanout : ℕ) (region : Region) (old : W) where
+  abbrev pub Leaves : W → Type 0
+  Leaves now = LeavesOnly clock left_since old now (LeftBy pages fanout region (image old) (printed old))
+
+  -- the first sync, which may find bytes pending
+  pub syncs : (new : W) → ((left : Image) (told : Option (List ℕ)) → left_since old (clock old) left told → Agree (pending old) (image old) left × (told ≡ printed old)) → Within (pending old) region → Elapses (clock old) (clock new) (left_since old) (left_since new) (During (image old) (pending old) no_place (printed old) []) → Leaves new
+  syncs new only within time =
+      let P : Image → Option (List ℕ) → Type 0 = LeftBy pages fanout region (image old) (printed old) in
+      let now : LeavesOnly clock left_since old old P = started clock left_since old P (λ left told since. let was = only left told since in (inl (agree_wider (pending old) region (image old) left within was.0), was.1)) in
+      goes_on clock left_since old old new P (During (image old) (pending old) no_place (printed old) []) now time (λ left told during.
+      (inl (agree_wider (either (pending old) no_place) region (image old) left (within_both (pending old) no_place region within (λ place out. refl)) during.agree), nothing_told (printed old) told during.part))
+
+  -- the made-gate is read, and closed where it is open
+  pub closes : (mid new : W) (touched : Region) → Leaves mid → Within touched region → image mid ≡ image old → printed mid ≡ printed old → Phase clock left_since image pending printed mid new touched → Leaves new
+  closes mid new touched so_far within same told phase =
+      let P : Image → Option (List ℕ) → Type 0 = LeftBy pages fanout region (image old) (printed old) in
+      chains clock left_since old mid new P so_far (widens clock left_since mid new (LeftOfPhase clock left_since image pending printed mid touched) P phase.leaves (λ left said has.
+      (inl (agree_wider touched region (image old) left within (λ place out. ap (λ (x : Image). x place) (sym same) ∙ has.0 place out)), has.1 ∙ told)))
+
+  -- all else is written while the made-gate is no 1
+  pub fills : (mid new : W) → Leaves mid → image mid made_gate ≢ 1 → printed mid ≡ printed old → Phase clock left_since image pending printed mid new content_places → Leaves new
+  fills mid new so_far shut told phase =
+      let P : Image → Option (List ℕ) → Type 0 = LeftBy pages fanout region (image old) (printed old) in
+      chains clock left_since old mid new P so_far (widens clock left_since mid new (LeftOfPhase clock left_since image pending printed mid content_places) P phase.leaves (λ left said has.
+      (inr (inl (λ is. shut (has.0 made_gate refl ∙ is))), has.1 ∙ told)))
+
+  -- the made-gate is opened: it is no 1, or the file is whole
+  pub opens : (mid new : W) → Leaves mid → IsPages pages → IsFanout fanout → IsWritten pages fanout (image mid) → printed mid ≡ printed old → Phase clock left_since image pending printed mid new made_place → Leaves new
+  opens mid new so_far many wide written told phase =
+      let P : Image → Option (List ℕ) → Type 0 = LeftBy pages fanout region (image old) (printed old) in
+      chains clock left_since old mid new P so_far (widens clock left_since mid new (LeftOfPhase clock left_since image pending printed mid made_place) P phase.leaves (λ left said has.
+      (inr (whole_or_none pages fanout (image mid) left many wide written has.0), has.1 ∙ told)))

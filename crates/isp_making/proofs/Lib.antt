@@ -1,0 +1,3 @@
+mod EmptyPages
+mod Leaving
+mod Writing

@@ -1,0 +1,146 @@
+//! A file of pages and its log, between two calls.
+ghost use Rattle.std.specs.Prelude.{◌≡◌, ◌⊎◌, ◌+◌, ◌<◌, ◌≤◌, ◌++◌, [], ◌∷◌, All, List, IsSome, IfOk, OnOk, length, map};
+ghost use Rattle.isp_disk.specs.Moments.{Agree, Quiet, slice};
+ghost use Rattle.isp_disk.specs.Outside.{HasCause, Prints};
+ghost use Rattle.isp_doublewrite.specs.Batches.{number_of, whole_page};
+ghost use Rattle.isp_format.specs.Contents.{ranges_of};
+ghost use Rattle.isp_format.specs.Doublewrite.{AreDistinct, most_copies};
+ghost use Rattle.isp_format.specs.Log.{IsBody, Transaction, log_bytes, log_of};
+ghost use Rattle.isp_format.specs.Ranges.{Range, cover, page_bytes, page_of, puts};
+ghost use Rattle.isp_redo.specs.Places.{IsAt, IsFurther, LiesInPage, TakesRange, place_of};
+ghost use Rattle.isp_redo.specs.Reading.{OnlyReads};
+ghost use Rattle.isp_stable.specs.File.{HasBatches, IsFile, KeepsShape, StandsOnly, flushed, placed};
+
+use isp_disk::{Failed, World};
+use isp_doublewrite::write_batch;
+use isp_page::{PAGE_BYTES, Page, PageNo};
+use isp_redo::{Log, LogRange, read_range};
+
+/// Where the page area begins, in bytes.
+const AREA: u64 = 1_314_816;
+
+/// A file of pages with its redo log, between two calls: nothing is pending, and no copy counts.
+pub struct Stable<W: World> {
+    pub world: W,
+    pub log: Log,
+    pub pages: u32,
+    pub fanout: u32,
+}
+
+impl<W: World> Stable<W> {
+    /// Fills `into` with the page as it stands in its place.
+    pub fn read_page(&mut self, p: PageNo, into: &mut Page) -> Result<(), Failed>
+        requires quiet { Quiet (W.pending self.old.world) }
+        ensures page { IsSome (W.printed self.old.world) → OnOk result (into.new.bytes ≡ page_of (placed W.World self.old) p.0) }
+        ensures stops { IsSome (W.printed self.old.world) → (file : IsFile W.World self.old)
+            → StandsOnly W.World self.old.world self.new.world (λ contents. contents ≡ flushed W.World self.old file.batches) }
+        ensures same { W.image self.new.world ≡ W.image self.old.world }
+        ensures log { self.new.log ≡ self.old.log }
+        ensures quiet { Quiet (W.pending self.new.world) }
+        ensures shape { KeepsShape W.World self.old self.new }
+        ensures cause { HasCause (W.disk_faults self.old.world) (W.disk_faults self.new.world) result }
+    {
+        let at = AREA + u64::from(p.0) * PAGE_BYTES as u64;
+        fill(&mut self.world, at, &mut into.bytes)?;
+        Ok(())
+    }
+
+    /// The range of the log at a place, as `isp_redo::read_range`.
+    pub fn read_range(
+        &mut self,
+        from: u64,
+        into: &mut [u8; PAGE_BYTES],
+    ) -> Result<Option<LogRange>, Failed>
+        requires quiet { Quiet (W.pending self.old.world) }
+        ensures found { IsSome (W.printed self.old.world) → IsFile W.World self.old → (ranges : List Range)
+            → IsAt self.old.pages (log_of (W.image self.old.world)) (place_of from) ranges
+            → IfOk result (λ found. TakesRange self.old.pages (log_of (W.image self.old.world)) ranges into.new found) }
+        ensures in_page { IfOk result (λ found. LiesInPage found) }
+        ensures onward { IfOk result (λ found. IsFurther from found) }
+        ensures stops { IsSome (W.printed self.old.world) → (file : IsFile W.World self.old)
+            → StandsOnly W.World self.old.world self.new.world (λ contents. contents ≡ flushed W.World self.old file.batches) }
+        ensures same { W.image self.new.world ≡ W.image self.old.world }
+        ensures log { self.new.log ≡ self.old.log }
+        ensures quiet { Quiet (W.pending self.new.world) }
+        ensures shape { KeepsShape W.World self.old self.new }
+        ensures cause { HasCause (W.disk_faults self.old.world) (W.disk_faults self.new.world) result }
+    {
+        read_range(&mut self.world, from, into)
+    }
+
+    /// Writes 1 to 64 pages in place. Where the log covers what they change, a stop at any moment leaves the same contents.
+    pub fn write_pages(&mut self, batch: &[(PageNo, Page)]) -> Result<(), Failed>
+        requires quiet { Quiet (W.pending self.old.world) }
+        requires some { 1 ≤ length batch.now }
+        requires most { length batch.now ≤ most_copies }
+        requires distinct { AreDistinct (map number_of batch.now) }
+        requires below { All (λ page. page < self.old.pages) (map number_of batch.now) }
+        requires file { IsSome (W.printed self.old.world) → IsFile W.World self.old }
+        ensures placed { IsSome (W.printed self.old.world)
+            → OnOk result (placed W.World self.new ≡ puts (map whole_page batch.now) (placed W.World self.old)) }
+        ensures batches { IsSome (W.printed self.old.world) → (file : IsFile W.World self.old)
+            → OnOk result (HasBatches W.World self.new file.batches) }
+        ensures stops { IsSome (W.printed self.old.world) → (file : IsFile W.World self.old)
+            → Agree (cover (ranges_of file.batches)) (placed W.World self.old) (puts (map whole_page batch.now) (placed W.World self.old))
+            → StandsOnly W.World self.old.world self.new.world (λ contents. contents ≡ flushed W.World self.old file.batches) }
+        ensures log { self.new.log ≡ self.old.log }
+        ensures quiet { OnOk result (Quiet (W.pending self.new.world)) }
+        ensures shape { KeepsShape W.World self.old self.new }
+        ensures cause { HasCause (W.disk_faults self.old.world) (W.disk_faults self.new.world) result }
+    {
+        write_batch(&mut self.world, batch)?;
+        Ok(())
+    }
+
+    /// Appends a batch with one mini-transaction. A stop leaves the contents without its ranges or with them; after it,
+    /// with them.
+    pub fn append(&mut self, body: &[u8]) -> Result<(), Failed>
+        requires quiet { Quiet (W.pending self.old.world) }
+        requires fits { self.old.log.end + 5 + length body.now < log_bytes }
+        ensures batches { IsSome (W.printed self.old.world) → (file : IsFile W.World self.old) (ranges : Transaction)
+            → IsBody self.old.pages (ranges ∷ []) body.now
+            → OnOk result (HasBatches W.World self.new (file.batches ++ (ranges ∷ []) ∷ [])) }
+        ensures placed { IsSome (W.printed self.old.world) → placed W.World self.new ≡ placed W.World self.old }
+        ensures stops { IsSome (W.printed self.old.world) → (file : IsFile W.World self.old) (ranges : Transaction)
+            → IsBody self.old.pages (ranges ∷ []) body.now
+            → StandsOnly W.World self.old.world self.new.world (λ contents.
+            (contents ≡ flushed W.World self.old file.batches) ⊎ (contents ≡ puts ranges (flushed W.World self.old file.batches))) }
+        ensures end { OnOk result (self.new.log.end ≡ self.old.log.end + 5 + length body.now) }
+        ensures quiet { OnOk result (Quiet (W.pending self.new.world)) }
+        ensures shape { KeepsShape W.World self.old self.new }
+        ensures cause { HasCause (W.disk_faults self.old.world) (W.disk_faults self.new.world) result }
+    {
+        self.log.append(&mut self.world, body)?;
+        Ok(())
+    }
+
+    /// Empties the log. Where the pages stand in their places, a stop leaves the same contents.
+    pub fn empty_log(&mut self) -> Result<(), Failed>
+        requires quiet { Quiet (W.pending self.old.world) }
+        ensures untouched { self.old.log.end ≡ 0 → self.new ≡ self.old }
+        ensures batches { IsSome (W.printed self.old.world) → IsFile W.World self.old
+            → OnOk result (HasBatches W.World self.new []) }
+        ensures placed { IsSome (W.printed self.old.world) → placed W.World self.new ≡ placed W.World self.old }
+        ensures stops { IsSome (W.printed self.old.world) → (file : IsFile W.World self.old)
+            → flushed W.World self.old file.batches ≡ placed W.World self.old
+            → StandsOnly W.World self.old.world self.new.world (λ contents. contents ≡ flushed W.World self.old file.batches) }
+        ensures end { OnOk result (self.new.log.end ≡ 0) }
+        ensures quiet { OnOk result (Quiet (W.pending self.new.world)) }
+        ensures shape { KeepsShape W.World self.old self.new }
+        ensures cause { HasCause (W.disk_faults self.old.world) (W.disk_faults self.new.world) result }
+    {
+        self.log.reset(&mut self.world)?;
+        Ok(())
+    }
+}
+
+// Fills a page's bytes with those from `at` on.
+fn fill<W: World>(world: &mut W, at: u64, into: &mut [u8; PAGE_BYTES]) -> Result<(), Failed>
+    requires { Quiet (W.pending world.old) }
+    ensures bytes { IsSome (W.printed world.old) → OnOk result (into.new ≡ slice (W.image world.old) at page_bytes) }
+    ensures reads { OnlyReads W.clock W.left_since W.image W.pending W.printed W.print_faults world.old world.new }
+    ensures cause { HasCause (W.disk_faults world.old) (W.disk_faults world.new) result }
+{
+    world.read(at, into)?;
+    Ok(())
+}
