@@ -99,7 +99,7 @@ control_by_batch numbers one other agree place low high =
     (neither (in_range 1024 260 place) (in_range 4096 262144 place) (below 1024 260 place (omega (arith, high))) (below 4096 262144 place (omega (arith, high))))
     (below 512 1 place (omega (arith, high))) (omega (arith, high)))
 
-log_by_batch : (numbers : List ℕ) (one other : Image) → Agree (batch_places numbers) one other → SameIn log_place log_bytes one other
+pub log_by_batch : (numbers : List ℕ) (one other : Image) → Agree (batch_places numbers) one other → SameIn log_place log_bytes one other
 log_by_batch numbers one other agree place low high =
     agree place (batch_out numbers place
     (neither (in_range 1024 260 place) (in_range 4096 262144 place) (above 1024 260 place (omega (arith, low))) (above 4096 262144 place (omega (arith, low))))

@@ -6,7 +6,7 @@ use Rattle.isp_format.specs.Log.{IsLog, log_of}
 use Rattle.isp_format.specs.Ranges.{Contents, Range}
 use Rattle.isp_stable.specs.File.{flushed}
 use Rattle.isp_stable.proofs.Files.{beside, file_of}
-use Rattle.isp_stable.proofs.Moves.{beside_batch, left_by_batch, log_beside_batch}
+use Rattle.isp_stable.proofs.Moves.{beside_batch, left_by_batch, log_beside_batch, log_by_batch}
 use Rattle.isp_stable.proofs.stable.Stable.write_pages.Goals as goal
 
 pub returns-clause-batches : goal.returns-clause-batches
@@ -44,3 +44,8 @@ returns-in_err-write_batch-clause-stops g c = λ tells file covered.
       left_by_batch image file.batches s.log.end (map whole_page batch) (map number_of batch) left file.control file.closed
       (subst (λ (pages : ℕ). IsLog pages (log_of image) 0 file.batches s.log.end) (sym file.pages) file.log) covered (has.copies) has.whole has.others,
       refl), has.same))
+
+pub returns-clause-log_bytes : goal.returns-clause-log_bytes
+returns-clause-log_bytes g c = λ tells.
+    let w = g.W.World in
+    log_by_batch (map number_of c.args.batch.now) (w.image c.args.self.now.world) (w.image c.write_batch.new.world) (c.in_ok-write_batch.ensures.done tells).others
