@@ -1,6 +1,6 @@
 -- The frames of a pool in which no page is pinned, after a page came to stand in one of them and was changed; frames that
 -- are free, and frames that are clean.
-use Rattle.std.proofs.Common.{◌≡◌, ◌∙◌, ⊎_elim, ◌+◌, ◌<◌, ◌≤◌, Bool, true, false, cond, List, [], ◌∷◌, ℕ, suc, Option, Some, None, refl, sym, ap, subst, arith, length, set}
+use Rattle.std.proofs.Common.{◌≡◌, ◌∙◌, ⊎_elim, ◌+◌, ◌<◌, ◌≤◌, Bool, true, false, cond, List, [], ◌∷◌, ℕ, zero, suc, Option, Some, None, refl, sym, ap, subst, arith, length, replicate, set}
 use Rattle.std.specs.List.{count_by}
 use Rattle.std.proofs.lemmas.Bool.{cases_eq}
 use Rattle.std.proofs.lemmas.List.Sums.{sum_by-cons}
@@ -84,6 +84,11 @@ changed_length s i at bytes = edited_count s i (overwrite at bytes)
 
 abbrev pub AreFree : List (Option Frame) → Type 0
 AreFree frames = (i : ℕ) → frame_in frames i ≡ None
+
+pub none_free : (count : ℕ) → AreFree (replicate count None)
+none_free zero i = refl
+none_free (suc count) zero = refl
+none_free (suc count) (suc i) = none_free count i
 
 pub free_now : (frames : List (Option Frame)) (placed : Contents) → AreFree frames → now_over frames placed ≡ placed
 free_now [] placed free = refl

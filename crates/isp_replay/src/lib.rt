@@ -8,5 +8,7 @@
 mod putting;
 mod refusal;
 mod replaying;
+#[cfg(test)]
+mod tests;
 
 pub use replaying::replay;
