@@ -1,5 +1,5 @@
 -- What lies ahead of a place of the log is read from the log's bytes alone.
-use Rattle.std.proofs.Common.{◌≡◌, ℕ, suc, ◌+◌, ◌-◌, ◌<◌, ◌≤◌, List, [], ◌∷◌, length, sym, ◌∙◌, arith}
+use Rattle.std.proofs.Common.{◌≡◌, ℕ, ◌+◌, ◌<◌, ◌≤◌, List, [], ◌∷◌, length, sym, ◌∙◌, arith}
 use Rattle.isp_disk.specs.Moments.{Image}
 use Rattle.isp_format.specs.Log.{IsLog, Transaction, log_bytes, log_of, log_place}
 use Rattle.isp_format.specs.Ranges.{Range}

@@ -1,16 +1,16 @@
 -- The frames of a pool in which no page is pinned, after a page came to stand in one of them and was changed; frames that
 -- are free, and frames that are clean.
-use Rattle.std.proofs.Common.{◌≡◌, ◌∙◌, ⊎_elim, ◌+◌, ◌<◌, ◌≤◌, Bool, true, false, cond, List, [], ◌∷◌, ℕ, zero, suc, Option, Some, None, refl, sym, ap, subst, arith, length, replicate, set}
+use Rattle.std.proofs.Common.{◌≡◌, ◌∙◌, ⊎_elim, ◌+◌, ◌<◌, ◌≤◌, Bool, false, cond, List, [], ◌∷◌, ℕ, suc, Option, Some, None, refl, sym, ap, subst, arith, length, set}
 use Rattle.std.specs.List.{count_by}
 use Rattle.std.proofs.lemmas.Bool.{cases_eq}
 use Rattle.std.proofs.lemmas.List.Sums.{sum_by-cons}
-use Rattle.isp_format.specs.Ranges.{Contents, Range}
-use Rattle.isp_frames.specs.Held.{AreBelow, AreClean, IsHeldAt, held_pages, now_over}
+use Rattle.isp_format.specs.Ranges.{Contents}
+use Rattle.isp_frames.specs.Held.{AreBelow, AreClean, IsHeldAt, now_over}
 use Rattle.isp_frames.proofs.HeldLaws.{held_others, held_page}
 use Rattle.isp_frames.proofs.NowLaws.{AreApart, edited_is, frame_below, now_beside, now_clean, overwrite, set_cases, set_here, some_is, where_is}
 use Rattle.isp_page.specs.declared.page.PageNo.{PageNo}
 use Rattle.isp_pool.specs.declared.frames.Frame.{Frame}
-use Rattle.isp_pool.specs.Frames.{PoolState, changed, frame_at, frame_in, fresh_frame, is_dirty, is_pinned, loaded, one_if, page_of as page_in, used}
+use Rattle.isp_pool.specs.Frames.{PoolState, changed, frame_at, frame_in, fresh_frame, is_dirty, is_pinned, one_if, page_of as page_in}
 use Rattle.isp_pool.proofs.PoolLaws.{held_from_page, held_is}
 use Rattle.isp_pool.proofs.StateLaws.{edited_count}
 
@@ -84,11 +84,6 @@ changed_length s i at bytes = edited_count s i (overwrite at bytes)
 
 abbrev pub AreFree : List (Option Frame) → Type 0
 AreFree frames = (i : ℕ) → frame_in frames i ≡ None
-
-pub none_free : (count : ℕ) → AreFree (replicate count None)
-none_free zero i = refl
-none_free (suc count) zero = refl
-none_free (suc count) (suc i) = none_free count i
 
 pub free_now : (frames : List (Option Frame)) (placed : Contents) → AreFree frames → now_over frames placed ≡ placed
 free_now [] placed free = refl

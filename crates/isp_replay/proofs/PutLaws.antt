@@ -26,7 +26,7 @@ use Rattle.isp_redo.proofs.Ahead.{begins_at}
 use Rattle.isp_replay.specs.Putting.{IsPut, PutsBytes}
 use Rattle.isp_replay.proofs.LogBytes.{ahead_same, place_inside, same_bytes}
 use Rattle.isp_replay.proofs.PoolAfter.{AreFree, IsHeld, clean_now, free_clean, free_now}
-use Rattle.isp_stable.specs.File.{HasBatches, IsFile, KeepsShape, StandsOnly, flushed, placed}
+use Rattle.isp_stable.specs.File.{IsFile, KeepsShape, StandsOnly, flushed, placed}
 use Rattle.isp_stable.specs.declared.stable.Stable.{Stable}
 
 -- all ranges of a log are ranges of the file
@@ -175,8 +175,7 @@ module _ {W : Type 0} (g : Ghosts W) where
       let widely : Within (in_range (f.page.0 * page_bytes + at) (length bytes)) (either log (pinned_places mid.pool.frames)) = λ place out.
       (λ j. in_range (start j) (length bytes) place)
       ∙ within place ((λ j. cover (ranges_of (sym keeps.1 j)) place) ∙ not_first (log place) (pinned_places mid.pool.frames place) out) in
-      let made = changed_covered g mid new keeps.0 i at bytes f pool held.there fits widely stable change in
-      (
+      let made = changed_covered g mid new keeps.0 i at bytes f pool held.there fits widely stable change in (
         made.0,
         made.1 ∙ keeps.1,
         subst (λ (batches : List (List Transaction)). flushed g new.stable batches ≡ flushed g mid.stable batches) keeps.1 made.2 ∙ keeps.2,

@@ -1,5 +1,5 @@
 use Rattle.std.proofs.Common.{◌≡◌, ◌∙◌, List, ℕ, arith, sym, ap, subst, take}
-use Rattle.std.specs.Prelude.{IsSome, Option, Some}
+use Rattle.std.specs.Prelude.{IsSome, Option}
 use Rattle.isp_format.specs.Log.{log_of}
 use Rattle.isp_redo.specs.Places.{TakesRange}
 use Rattle.isp_redo.specs.declared.ranges.LogRange.{LogRange}

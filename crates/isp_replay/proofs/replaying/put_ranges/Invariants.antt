@@ -1,4 +1,4 @@
-use Rattle.std.proofs.Common.{◌≡◌, ◌≤◌, ℕ, false, length, vec_capacity, IsSome}
+use Rattle.std.proofs.Common.{◌≡◌, ℕ, false, length, vec_capacity, IsSome}
 use Rattle.isp_disk.specs.Moments.{Quiet}
 use Rattle.isp_frames.specs.Held.{AreBelow}
 use Rattle.isp_pool.specs.Frames.{frame_at, is_pinned}
