@@ -1,7 +1,7 @@
 -- A cache before and after a call, over any world.
 use Rattle.std.proofs.Common.{◌≡◌, ◌∙◌, ◌+◌, ◌*◌, ◌≤◌, ◌||◌, true, false, List, ℕ, Option, Some, refl, sym, ap, subst, length, map, set, set-set}
 use Rattle.std.specs.Option.{option_map}
-use Rattle.isp_disk.specs.Moments.{Agree, Image, Quiet, Region, Within, either, put}
+use Rattle.isp_disk.specs.Moments.{Agree, Image, Quiet, Region, Within, either, in_range, put}
 use Rattle.isp_disk.specs.declared.world.World.{Ghosts}
 use Rattle.isp_disk.proofs.Moments.{chains, started, widens}
 use Rattle.isp_doublewrite.specs.Batches.{whole_page}
@@ -108,11 +108,11 @@ module _ {W : Type 0} (g : Ghosts W) where
       not_second (page_places f.page.0 spot) (pinned_places old.pool.frames spot) its)
       (ap (λ (fs : List (Option Frame)). now_over fs place) (sym frames) ∙ flagged_now old.pool.frames place i f pin e refl)
 
-  -- bytes of a pinned page were changed
-  pub changed_cached : (old new : Cache W) (cached : IsCached g old) (i at : ℕ) (bytes : List ℕ) (f : Frame) → IsPool old.pool → frame_at old.pool i ≡ Some f → f.pinned ≡ true → at + length bytes ≤ 4096
-      → new.stable ≡ old.stable → new.pool ≡ changed old.pool i at bytes
+  -- bytes of a page were changed, where the log or a pinned page covers them
+  pub changed_covered : (old new : Cache W) (cached : IsCached g old) (i at : ℕ) (bytes : List ℕ) (f : Frame) → IsPool old.pool → frame_at old.pool i ≡ Some f → at + length bytes ≤ 4096
+      → Within (in_range (f.page.0 * page_bytes + at) (length bytes)) (either (cover (ranges_of cached.file.batches)) (pinned_places old.pool.frames)) → new.stable ≡ old.stable → new.pool ≡ changed old.pool i at bytes
       → (after : IsCached g new) × (after.file.batches ≡ cached.file.batches) × (flushed g new.stable cached.file.batches ≡ flushed g old.stable cached.file.batches) × (now g new ≡ put (now g old) (f.page.0 * page_bytes + at) bytes)
-  changed_cached old new cached i at bytes f kept e flag fits stable pool =
+  changed_covered old new cached i at bytes f kept e fits within stable pool =
       let place = placed g old.stable in
       let frames : edited old.pool.frames i (overwrite at bytes) ≡ new.pool.frames = sym (ap (λ (s : PoolState). s.frames) pool) in
       let same : placed g new.stable ≡ place = ap (placed g) stable in
@@ -123,8 +123,7 @@ module _ {W : Type 0} (g : Ghosts W) where
       let pins : pinned_places new.pool.frames ≡ pinned_places old.pool.frames = ap pinned_places (sym frames) ∙ change_pins old.pool i at bytes f e in
       let log = cover (ranges_of cached.file.batches) in
       let covered : Agree (either log (pinned_places old.pool.frames)) place (put (now g old) start bytes) = λ spot out.
-      cached.covered spot out ∙ sym (put_outside (now g old) start bytes spot (range_outside f.page.0 at (length bytes) spot fits
-      (out_of_pinned old.pool.frames i f e flag spot (not_second (log spot) (pinned_places old.pool.frames spot) out)))) in
+      cached.covered spot out ∙ sym (put_outside (now g old) start bytes spot (within spot out)) in
       let made : IsCached g new = record {
         file = has.0;
         clean = subst (AreClean new.pool.frames) (sym same) (subst (λ (fs : List (Option Frame)). AreClean fs place) frames (changed_clean old.pool.frames place i at bytes f e cached.clean));
@@ -133,6 +132,16 @@ module _ {W : Type 0} (g : Ghosts W) where
             (within_same (pinned_places old.pool.frames) (pinned_places new.pool.frames) pins) same contents covered);
       } in
       (made, has.1, ap (puts (ranges_of cached.file.batches)) same, contents)
+
+  -- bytes of a pinned page were changed
+  pub changed_cached : (old new : Cache W) (cached : IsCached g old) (i at : ℕ) (bytes : List ℕ) (f : Frame) → IsPool old.pool → frame_at old.pool i ≡ Some f → f.pinned ≡ true → at + length bytes ≤ 4096
+      → new.stable ≡ old.stable → new.pool ≡ changed old.pool i at bytes
+      → (after : IsCached g new) × (after.file.batches ≡ cached.file.batches) × (flushed g new.stable cached.file.batches ≡ flushed g old.stable cached.file.batches) × (now g new ≡ put (now g old) (f.page.0 * page_bytes + at) bytes)
+  changed_cached old new cached i at bytes f kept e flag fits stable pool =
+      let log = cover (ranges_of cached.file.batches) in
+      changed_covered old new cached i at bytes f kept e fits
+      (λ spot out. range_outside f.page.0 at (length bytes) spot fits (out_of_pinned old.pool.frames i f e flag spot (not_second (log spot) (pinned_places old.pool.frames spot) out)))
+      stable pool
 
   -- a batch of pages was written in place
   pub gathered_keeps : (old new : Cache W) (cached : IsCached g old) (batch : List (PageNo × Page)) → HasBatches g new.stable cached.file.batches → placed g new.stable ≡ puts (map whole_page batch) (placed g old.stable)

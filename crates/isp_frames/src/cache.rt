@@ -2,6 +2,8 @@
 ghost use Rattle.std.specs.Prelude.{◌≡◌, ◌≢◌, ℕ, ◌<◌, true, false, count_by, length, vec_capacity, IfOk, IsSome, OnOk, Some};
 ghost use Rattle.isp_disk.specs.Moments.{Quiet};
 ghost use Rattle.isp_disk.specs.Outside.{HasCause};
+ghost use Rattle.isp_format.proofs.Local.{SameIn};
+ghost use Rattle.isp_format.specs.Log.{log_bytes, log_place};
 ghost use Rattle.isp_frames.specs.Cached.{IsCached, KeepsCached};
 ghost use Rattle.isp_frames.specs.Held.{AreBelow, IsHeldAt, IsRoom, cleaned_at, numbered};
 ghost use Rattle.isp_pool.specs.Frames.{frame_at, is_dirty, is_held, is_pinned, loaded, page_of as page_in};
@@ -39,6 +41,8 @@ impl<W: World> Cache<W> {
             → StandsOnly W.World self.old.stable.world self.new.stable.world (λ contents. contents ≡ flushed W.World self.old.stable cached.file.batches) }
         ensures below { OnOk result (AreBelow self.old.stable.pages self.new.pool.frames) }
         ensures log { self.new.stable.log ≡ self.old.stable.log }
+        ensures log_bytes { IsSome (W.printed self.old.stable.world)
+            → OnOk result (SameIn log_place log_bytes (W.image self.old.stable.world) (W.image self.new.stable.world)) }
         ensures room { vec_capacity self.new.batch ≡ vec_capacity self.old.batch }
         ensures quiet { OnOk result (Quiet (W.pending self.new.stable.world)) }
         ensures shape { KeepsShape W.World self.old.stable self.new.stable }
@@ -66,6 +70,8 @@ impl<W: World> Cache<W> {
         ensures stops { IsSome (W.printed self.old.stable.world) → (cached : IsCached W.World self.old)
             → StandsOnly W.World self.old.stable.world self.new.stable.world (λ contents. contents ≡ flushed W.World self.old.stable cached.file.batches) }
         ensures log { self.new.stable.log ≡ self.old.stable.log }
+        ensures log_bytes { IsSome (W.printed self.old.stable.world)
+            → OnOk result (SameIn log_place log_bytes (W.image self.old.stable.world) (W.image self.new.stable.world)) }
         ensures room { vec_capacity self.new.batch ≡ vec_capacity self.old.batch }
         ensures quiet { OnOk result (Quiet (W.pending self.new.stable.world)) }
         ensures shape { KeepsShape W.World self.old.stable self.new.stable }
@@ -93,6 +99,8 @@ impl<W: World> Cache<W> {
         ensures stops { IsSome (W.printed self.old.stable.world) → (cached : IsCached W.World self.old)
             → StandsOnly W.World self.old.stable.world self.new.stable.world (λ contents. contents ≡ flushed W.World self.old.stable cached.file.batches) }
         ensures log { self.new.stable.log ≡ self.old.stable.log }
+        ensures log_bytes { IsSome (W.printed self.old.stable.world)
+            → OnOk result (SameIn log_place log_bytes (W.image self.old.stable.world) (W.image self.new.stable.world)) }
         ensures room { vec_capacity self.new.batch ≡ vec_capacity self.old.batch }
         ensures quiet { OnOk result (Quiet (W.pending self.new.stable.world)) }
         ensures shape { KeepsShape W.World self.old.stable self.new.stable }
@@ -118,6 +126,8 @@ impl<W: World> Cache<W> {
         ensures stops { IsSome (W.printed self.old.stable.world) → (cached : IsCached W.World self.old)
             → StandsOnly W.World self.old.stable.world self.new.stable.world (λ contents. contents ≡ flushed W.World self.old.stable cached.file.batches) }
         ensures log { self.new.stable.log ≡ self.old.stable.log }
+        ensures log_bytes { IsSome (W.printed self.old.stable.world)
+            → OnOk result (SameIn log_place log_bytes (W.image self.old.stable.world) (W.image self.new.stable.world)) }
         ensures room { vec_capacity self.new.batch ≡ vec_capacity self.old.batch }
         ensures quiet { Quiet (W.pending self.new.stable.world) }
         ensures shape { KeepsShape W.World self.old.stable self.new.stable }

@@ -5,7 +5,8 @@ ghost use Rattle.isp_disk.specs.Outside.{HasCause, Prints};
 ghost use Rattle.isp_doublewrite.specs.Batches.{number_of, whole_page};
 ghost use Rattle.isp_format.specs.Contents.{ranges_of};
 ghost use Rattle.isp_format.specs.Doublewrite.{AreDistinct, most_copies};
-ghost use Rattle.isp_format.specs.Log.{IsBody, Transaction, log_bytes, log_of};
+ghost use Rattle.isp_format.proofs.Local.{SameIn};
+ghost use Rattle.isp_format.specs.Log.{IsBody, Transaction, log_bytes, log_of, log_place};
 ghost use Rattle.isp_format.specs.Ranges.{Range, cover, page_bytes, page_of, puts};
 ghost use Rattle.isp_redo.specs.Places.{IsAt, IsFurther, LiesInPage, TakesRange, place_of};
 ghost use Rattle.isp_redo.specs.Reading.{OnlyReads};
@@ -84,6 +85,8 @@ impl<W: World> Stable<W> {
             → Agree (cover (ranges_of file.batches)) (placed W.World self.old) (puts (map whole_page batch.now) (placed W.World self.old))
             → StandsOnly W.World self.old.world self.new.world (λ contents. contents ≡ flushed W.World self.old file.batches) }
         ensures log { self.new.log ≡ self.old.log }
+        ensures log_bytes { IsSome (W.printed self.old.world)
+            → OnOk result (SameIn log_place log_bytes (W.image self.old.world) (W.image self.new.world)) }
         ensures quiet { OnOk result (Quiet (W.pending self.new.world)) }
         ensures shape { KeepsShape W.World self.old self.new }
         ensures cause { HasCause (W.disk_faults self.old.world) (W.disk_faults self.new.world) result }

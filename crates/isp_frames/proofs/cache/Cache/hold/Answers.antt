@@ -45,3 +45,11 @@ returns-clause-held g c =
       room.frame.within,
       c.in_ok-read_into.ensures.pool ∙ ap (λ (t : PoolState). loaded t frame c.args.p page) room.pool ∙ loaded_cleaned s frame c.args.p page,
     )
+
+pub returns-in-Some-clause-log_bytes : goal.returns-in-Some-clause-log_bytes
+returns-in-Some-clause-log_bytes g c = λ tells place low high. refl
+
+pub returns-clause-log_bytes : goal.returns-clause-log_bytes
+returns-clause-log_bytes g c = λ tells place low high.
+    let room = c.in_ok-frame.ensures in
+    room.log_bytes tells place low high ∙ c.in_ok-read_into.ensures.log_bytes (subst IsSome (sym room.shape.told) tells) place low high

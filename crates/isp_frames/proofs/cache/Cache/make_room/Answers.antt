@@ -12,3 +12,6 @@ returns-else-is_dirty-clause-keeps g c = λ tells cached. (cached, refl, refl, r
 pub returns-else-is_dirty-clause-stops : goal.returns-else-is_dirty-clause-stops
 returns-else-is_dirty-clause-stops g c = λ tells cached.
     stands_still g.W.World c.args.self.now.stable cached.file c.requires.quiet (λ left told since. g.met.W.World.only_now c.args.self.now.stable.world left told since)
+
+pub returns-else-is_dirty-clause-log_bytes : goal.returns-else-is_dirty-clause-log_bytes
+returns-else-is_dirty-clause-log_bytes g c = λ tells place low high. refl

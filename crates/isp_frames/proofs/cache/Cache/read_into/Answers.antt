@@ -1,3 +1,4 @@
+use Rattle.std.proofs.Common.{sym}
 use Rattle.isp_frames.proofs.CacheLaws.{loaded_keeps}
 use Rattle.isp_frames.proofs.cache.Cache.read_into.Goals as goal
 
@@ -14,3 +15,6 @@ returns-clause-keeps g c = λ tells cached.
     c.args.frame c.args.p c.read_page.new.into c.frames.ensures.kept c.read_page.ensures.same c.read_page.ensures.log c.read_page.ensures.shape
     (record { below = c.requires.within; clean = c.requires.clean; absent = c.requires.absent; read = c.in_ok-read_page.ensures.page tells })
     c.requires.unpinned c.load.ensures
+
+pub returns-clause-log_bytes : goal.returns-clause-log_bytes
+returns-clause-log_bytes g c = λ tells place low high. (λ i. sym c.read_page.ensures.same i place)

@@ -6,7 +6,7 @@ use Rattle.isp_format.specs.Log.{IsLog, log_of}
 use Rattle.isp_format.specs.Ranges.{Contents, Range}
 use Rattle.isp_stable.specs.File.{flushed}
 use Rattle.isp_stable.proofs.Files.{beside, file_of}
-use Rattle.isp_stable.proofs.Moves.{beside_batch, left_by_batch, log_beside_batch}
+use Rattle.isp_stable.proofs.Moves.{beside_batch, left_by_batch, log_beside_batch, log_by_batch}
 use Rattle.isp_stable.proofs.stable.Stable.write_pages.Goals as goal
 
 pub returns-clause-batches : goal.returns-clause-batches
@@ -26,11 +26,15 @@ returns-clause-stops g c = λ tells file covered.
     let batch = c.args.batch.now in
     let image : Image = w.image s.world in
     widens w.clock w.left_since s.world c.write_batch.new.world _ _ (c.write_batch.ensures.stops tells)
-    (λ left told has.
-    ((flushed w s file.batches,
-      left_by_batch image file.batches s.log.end (map whole_page batch) (map number_of batch) left file.control file.closed
-      (subst (λ (pages : ℕ). IsLog pages (log_of image) 0 file.batches s.log.end) (sym file.pages) file.log) covered (has.copies) has.whole has.others,
-      refl), has.same))
+    (λ left told has. (
+      (
+        flushed w s file.batches,
+        left_by_batch image file.batches s.log.end (map whole_page batch) (map number_of batch) left file.control file.closed
+            (subst (λ (pages : ℕ). IsLog pages (log_of image) 0 file.batches s.log.end) (sym file.pages) file.log) covered (has.copies) has.whole has.others,
+        refl,
+      ),
+      has.same,
+    ))
 
 pub returns-in_err-write_batch-clause-stops : goal.returns-in_err-write_batch-clause-stops
 returns-in_err-write_batch-clause-stops g c = λ tells file covered.
@@ -39,8 +43,17 @@ returns-in_err-write_batch-clause-stops g c = λ tells file covered.
     let batch = c.args.batch.now in
     let image : Image = w.image s.world in
     widens w.clock w.left_since s.world c.write_batch.new.world _ _ (c.write_batch.ensures.stops tells)
-    (λ left told has.
-    ((flushed w s file.batches,
-      left_by_batch image file.batches s.log.end (map whole_page batch) (map number_of batch) left file.control file.closed
-      (subst (λ (pages : ℕ). IsLog pages (log_of image) 0 file.batches s.log.end) (sym file.pages) file.log) covered (has.copies) has.whole has.others,
-      refl), has.same))
+    (λ left told has. (
+      (
+        flushed w s file.batches,
+        left_by_batch image file.batches s.log.end (map whole_page batch) (map number_of batch) left file.control file.closed
+            (subst (λ (pages : ℕ). IsLog pages (log_of image) 0 file.batches s.log.end) (sym file.pages) file.log) covered (has.copies) has.whole has.others,
+        refl,
+      ),
+      has.same,
+    ))
+
+pub returns-clause-log_bytes : goal.returns-clause-log_bytes
+returns-clause-log_bytes g c = λ tells.
+    let w = g.W.World in
+    log_by_batch (map number_of c.args.batch.now) (w.image c.args.self.now.world) (w.image c.write_batch.new.world) (c.in_ok-write_batch.ensures.done tells).others

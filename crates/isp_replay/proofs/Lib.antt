@@ -1,0 +1,3 @@
+pub mod LogBytes
+pub mod PoolAfter
+pub mod PutLaws
