@@ -113,9 +113,9 @@ left_by_batch old batches end ranges numbers left control isnt log covered copie
     let stands = stands_closed old batches end control isnt log in
     let shut = laid_closed old isnt in
     let same : puts (ranges_of batches) (laid left) ≡ puts (ranges_of batches) (laid old) = ⊎_elim
-        (λ e. ap (puts (ranges_of batches)) (e ∙ sym shut))
-        (λ e. ap (puts (ranges_of batches)) e ∙ mixes (ranges_of batches) (area old) (puts ranges (area old)) covered ∙ ap (puts (ranges_of batches)) (sym shut))
-        whole in
+    (λ e. ap (puts (ranges_of batches)) (e ∙ sym shut))
+    (λ e. ap (puts (ranges_of batches)) e ∙ mixes (ranges_of batches) (area old) (puts ranges (area old)) covered ∙ ap (puts (ranges_of batches)) (sym shut))
+    whole in
     stands_moved old left (puts (ranges_of batches) (area old)) stands (control_by_batch numbers old left others) (log_by_batch numbers old left others) copies same
 
 pub beside_batch : (pages fanout : ℕ) (ranges : List Range) (numbers : List ℕ) (old new : Image) → IsBatchDone ranges numbers old new → IsBeside pages fanout old → IsBeside pages fanout new
@@ -137,7 +137,7 @@ pub put_more : (old : Image) (batches : List (List Transaction)) (ranges : Trans
     → (contents : Contents) × StandsFor left contents × ((contents ≡ puts (ranges_of batches) (area old)) ⊎ (contents ≡ puts ranges (puts (ranges_of batches) (area old))))
 put_more old batches ranges left (contents, stands, which) =
     let more : puts (ranges_of (batches ++ (ranges ∷ []) ∷ [])) (area old) ≡ puts ranges (puts (ranges_of batches) (area old)) =
-        ap (λ (all : List Range). puts all (area old)) (ranges_more batches ranges) ∙ puts_append (ranges_of batches) ranges (area old) in
+    ap (λ (all : List Range). puts all (area old)) (ranges_more batches ranges) ∙ puts_append (ranges_of batches) ranges (area old) in
     (contents, stands, ⊎_elim (λ e. inl e) (λ e. inr (e ∙ more)) which)
 
 -- the same where the other log is empty and the pages stand in their places

@@ -24,13 +24,19 @@ returns-clause-stops g c = λ tells file ranges body.
     let w = g.W.World in
     let s = c.args.self.now in
     widens w.clock w.left_since s.world c.append.new.world _ _ (c.append.ensures.moments tells s.pages file.batches (ranges ∷ []) file.log body)
-    (λ left told has. (put_more (w.image s.world) file.batches ranges left
-      (left_by_log s.pages (w.image s.world) file.batches (file.batches ++ (ranges ∷ []) ∷ []) s.log.end (s.log.end + 5 + length c.args.body.now) left file.control file.pages file.closed has.0), has.1))
+    (λ left told has. (
+      put_more (w.image s.world) file.batches ranges left
+          (left_by_log s.pages (w.image s.world) file.batches (file.batches ++ (ranges ∷ []) ∷ []) s.log.end (s.log.end + 5 + length c.args.body.now) left file.control file.pages file.closed has.0),
+      has.1,
+    ))
 
 pub returns-in_err-append-clause-stops : goal.returns-in_err-append-clause-stops
 returns-in_err-append-clause-stops g c = λ tells file ranges body.
     let w = g.W.World in
     let s = c.args.self.now in
     widens w.clock w.left_since s.world c.append.new.world _ _ (c.append.ensures.moments tells s.pages file.batches (ranges ∷ []) file.log body)
-    (λ left told has. (put_more (w.image s.world) file.batches ranges left
-      (left_by_log s.pages (w.image s.world) file.batches (file.batches ++ (ranges ∷ []) ∷ []) s.log.end (s.log.end + 5 + length c.args.body.now) left file.control file.pages file.closed has.0), has.1))
+    (λ left told has. (
+      put_more (w.image s.world) file.batches ranges left
+          (left_by_log s.pages (w.image s.world) file.batches (file.batches ++ (ranges ∷ []) ∷ []) s.log.end (s.log.end + 5 + length c.args.body.now) left file.control file.pages file.closed has.0),
+      has.1,
+    ))

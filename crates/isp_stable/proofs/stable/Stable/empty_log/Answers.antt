@@ -17,13 +17,19 @@ returns-clause-stops g c = λ tells file placed.
     let w = g.W.World in
     let s = c.args.self.now in
     widens w.clock w.left_since s.world c.reset.new.world _ _ (c.reset.ensures.moments tells s.pages file.batches file.log)
-    (λ left told has. (put_none (w.image s.world) file.batches left placed
-      (left_by_log s.pages (w.image s.world) file.batches [] s.log.end 0 left file.control file.pages file.closed has.0), has.1))
+    (λ left told has. (
+      put_none (w.image s.world) file.batches left placed
+          (left_by_log s.pages (w.image s.world) file.batches [] s.log.end 0 left file.control file.pages file.closed has.0),
+      has.1,
+    ))
 
 pub returns-in_err-reset-clause-stops : goal.returns-in_err-reset-clause-stops
 returns-in_err-reset-clause-stops g c = λ tells file placed.
     let w = g.W.World in
     let s = c.args.self.now in
     widens w.clock w.left_since s.world c.reset.new.world _ _ (c.reset.ensures.moments tells s.pages file.batches file.log)
-    (λ left told has. (put_none (w.image s.world) file.batches left placed
-      (left_by_log s.pages (w.image s.world) file.batches [] s.log.end 0 left file.control file.pages file.closed has.0), has.1))
+    (λ left told has. (
+      put_none (w.image s.world) file.batches left placed
+          (left_by_log s.pages (w.image s.world) file.batches [] s.log.end 0 left file.control file.pages file.closed has.0),
+      has.1,
+    ))

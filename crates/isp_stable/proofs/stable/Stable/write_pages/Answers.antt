@@ -26,11 +26,15 @@ returns-clause-stops g c = λ tells file covered.
     let batch = c.args.batch.now in
     let image : Image = w.image s.world in
     widens w.clock w.left_since s.world c.write_batch.new.world _ _ (c.write_batch.ensures.stops tells)
-    (λ left told has.
-    ((flushed w s file.batches,
-      left_by_batch image file.batches s.log.end (map whole_page batch) (map number_of batch) left file.control file.closed
-      (subst (λ (pages : ℕ). IsLog pages (log_of image) 0 file.batches s.log.end) (sym file.pages) file.log) covered (has.copies) has.whole has.others,
-      refl), has.same))
+    (λ left told has. (
+      (
+        flushed w s file.batches,
+        left_by_batch image file.batches s.log.end (map whole_page batch) (map number_of batch) left file.control file.closed
+            (subst (λ (pages : ℕ). IsLog pages (log_of image) 0 file.batches s.log.end) (sym file.pages) file.log) covered (has.copies) has.whole has.others,
+        refl,
+      ),
+      has.same,
+    ))
 
 pub returns-in_err-write_batch-clause-stops : goal.returns-in_err-write_batch-clause-stops
 returns-in_err-write_batch-clause-stops g c = λ tells file covered.
@@ -39,8 +43,12 @@ returns-in_err-write_batch-clause-stops g c = λ tells file covered.
     let batch = c.args.batch.now in
     let image : Image = w.image s.world in
     widens w.clock w.left_since s.world c.write_batch.new.world _ _ (c.write_batch.ensures.stops tells)
-    (λ left told has.
-    ((flushed w s file.batches,
-      left_by_batch image file.batches s.log.end (map whole_page batch) (map number_of batch) left file.control file.closed
-      (subst (λ (pages : ℕ). IsLog pages (log_of image) 0 file.batches s.log.end) (sym file.pages) file.log) covered (has.copies) has.whole has.others,
-      refl), has.same))
+    (λ left told has. (
+      (
+        flushed w s file.batches,
+        left_by_batch image file.batches s.log.end (map whole_page batch) (map number_of batch) left file.control file.closed
+            (subst (λ (pages : ℕ). IsLog pages (log_of image) 0 file.batches s.log.end) (sym file.pages) file.log) covered (has.copies) has.whole has.others,
+        refl,
+      ),
+      has.same,
+    ))
