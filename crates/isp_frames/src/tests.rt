@@ -411,7 +411,7 @@ fn a_made_file_is_held(rt: HostRuntime) -> Result<(), Fail> {
             let frames = hold_three_times(&mut cache, 1, 0);
             assert_eq!(rt; frames, [Some(0), Some(1), Some(0)]);
             assert_eq!(rt; cache.stable.world.calls().checked_sub(before), Some(2));
-            // The kinds of the pages: of the file's own, and of its catalog.
+            // The kinds of the page of the space and of the directory of undo chains.
             assert_eq!(rt; first_byte(&cache.pool, 0), Some(1));
             assert_eq!(rt; first_byte(&cache.pool, 1), Some(2));
             let Cache {
