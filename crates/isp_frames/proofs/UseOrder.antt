@@ -1,5 +1,5 @@
 -- Frames that are cleaned in the order of use, the least recently used first.
-use Rattle.std.proofs.Common.{◌≡◌, ◌∙◌, ◌⊎◌, ◌&&◌, ◌<◌, ⊎_elim, inl, inr, Bool, true, false, not, cond, List, [], ◌∷◌, ℕ, Option, Some, None, refl, sym, ap, subst, length}
+use Rattle.std.proofs.Common.{◌≡◌, ◌∙◌, ◌&&◌, ◌<◌, ⊎_elim, inl, inr, Bool, true, false, not, cond, List, [], ◌∷◌, ℕ, Option, Some, None, refl, sym, ap, subst, length}
 use Rattle.std.specs.Option.{option_map, option_or}
 use Rattle.std.proofs.lemmas.Bool.{false≢true, cases_Bool, cases_eq, cond-false, cond-true}
 use Rattle.isp_recency.specs.Recent.{has, last_where}

@@ -25,9 +25,9 @@ pub struct Cache<W: World> {
 }
 
 impl<W: World> Cache<W> {
-    /// The frame that holds the page, which is used last then. Where none does, it is read into the frame that is next to go,
-    /// whose page is written in place before if it is dirty. A page that is held costs no call of the disk. One frame at least
-    /// is unpinned. At a failed call the store is to be opened again.
+    /// The frame that holds the page, which counts as last used from here on. A page that is held costs no call of the disk.
+    /// Any other is read into the frame that is next to go, whose page is written in place before if it is dirty. One frame
+    /// at least is unpinned.
     pub fn hold(&mut self, p: PageNo) -> Result<usize, Failed>
         requires quiet { Quiet (W.pending self.old.stable.world) }
         requires page { p.0 < self.old.stable.pages }

@@ -19,7 +19,7 @@ const MOST_PAGES: usize = 64;
 
 impl<W: World> Cache<W> {
     /// Writes up to 64 dirty pages in place, the least recently used first. Answers how many; where none is dirty the disk
-    /// isn't called. No page is pinned. Behind a failed call some count as clean that weren't written.
+    /// isn't called. No page is pinned. Behind a failed call frames may count as clean whose pages weren't written.
     pub fn clean_some(&mut self) -> Result<u32, Failed>
         requires quiet { Quiet (W.pending self.old.stable.world) }
         requires below { AreBelow self.old.stable.pages self.old.pool.frames }
@@ -48,7 +48,8 @@ impl<W: World> Cache<W> {
         Ok(self.batch.len() as u32)
     }
 
-    /// Writes all dirty pages in place, in batches. No page is pinned. A failed call leaves what one of `clean_some` does.
+    /// Writes all dirty pages in place, in batches of up to 64. No page is pinned. A failed call leaves what one of
+    /// `clean_some` does.
     pub fn clean_all(&mut self) -> Result<(), Failed>
         requires quiet { Quiet (W.pending self.old.stable.world) }
         requires below { AreBelow self.old.stable.pages self.old.pool.frames }
