@@ -1,5 +1,5 @@
 -- A cache before and after a call, over any world.
-use Rattle.std.proofs.Common.{◌≡◌, ◌∙◌, ◌+◌, ◌*◌, ◌≤◌, ◌||◌, true, false, List, ℕ, Option, Some, refl, sym, ap, subst, length, map, set, set-set}
+use Rattle.std.proofs.Common.{◌≡◌, ◌∙◌, ◌+◌, ◌*◌, ◌≤◌, ◌||◌, true, false, List, [], ◌∷◌, ℕ, suc, Option, Some, None, refl, sym, ap, subst, length, map, set, set-set}
 use Rattle.std.specs.Option.{option_map}
 use Rattle.isp_disk.specs.Moments.{Agree, Image, Quiet, Region, Within, either, in_range, put}
 use Rattle.isp_disk.specs.declared.world.World.{Ghosts}
@@ -15,7 +15,7 @@ use Rattle.isp_format.proofs.Puts.{mixes}
 use Rattle.isp_format.proofs.Slices.{put_outside}
 use Rattle.isp_frames.specs.Cached.{IsCached, KeepsCached, now}
 use Rattle.isp_frames.specs.Gathered.{IsGathered}
-use Rattle.isp_frames.specs.Held.{AreClean, cleaned_at, now_over, page_places, pinned_places}
+use Rattle.isp_frames.specs.Held.{AreClean, cleaned_at, held_pages, now_over, page_places, pinned_places}
 use Rattle.isp_frames.specs.declared.cache.Cache.{Cache}
 use Rattle.isp_page.specs.declared.page.Page.{Page}
 use Rattle.isp_page.specs.declared.page.PageNo.{PageNo}
@@ -37,6 +37,15 @@ covered_same region pins pins_now before contents before_now contents_now within
 
 within_same : (pins pins_now : Region) → pins_now ≡ pins → Within pins pins_now
 within_same pins pins_now same place out = (λ i. sym same i place) ∙ out
+
+-- frames that are free hold nothing
+pub none_held : (frames : List (Option Frame)) → ((i : ℕ) → frame_in frames i ≡ None) → held_pages frames ≡ []
+none_held [] free = refl
+none_held (None ∷ frames) free = none_held frames (λ i. free (suc i))
+none_held (Some f ∷ frames) free = absurd (is_free (free 0))
+  where
+    is_free : frame_in (Some f ∷ frames) 0 ≡ None → ⊥
+    is_free e = absurd (cc)
 
 -- a page is loaded as it would be had its frame not been cleaned before
 pub loaded_cleaned : (s : PoolState) (i : ℕ) (p : PageNo) (page : Page) → loaded (cleaned_at s i) i p page ≡ loaded s i p page
@@ -60,6 +69,17 @@ module _ {W : Type 0} (g : Ghosts W) where
       (subst (λ (pages : ℕ). IsLog pages (log_of (g.image t.world)) 0 file.batches t.log.end) (sym shape.pages)
       (subst (λ (im : Image). IsLog s.pages (log_of im) 0 file.batches t.log.end) (sym image)
       (subst (λ (n : ℕ). IsLog s.pages (log_of (g.image s.world)) 0 file.batches n) (sym end) file.log)))
+
+  -- free frames over a file
+  pub free_cached : (s : Cache W) → IsFile g s.stable → ((i : ℕ) → frame_at s.pool i ≡ None) → IsCached g s
+  free_cached s file free = record {
+    file = file;
+    clean = λ i f e flag. absurd (is_none f (frame_at s.pool i) e (free i));
+    covered = λ place out. sym (λ i. puts (none_held s.pool.frames free i) (placed g s.stable) place);
+  }
+    where
+      is_none : (f : Frame) (o : Option Frame) → o ≡ Some f → o ≡ None → ⊥
+      is_none f o some none = absurd (cc)
 
   -- pages in their places as they were, frames that give the same contents over them, and no fewer pinned pages
   pub cached_same : (old new : Cache W) (cached : IsCached g old) → HasBatches g new.stable cached.file.batches → placed g new.stable ≡ placed g old.stable

@@ -14,11 +14,13 @@ use Rattle.isp_frames.specs.Held.{AreClean, IsCleaned, cleaned_at, now_over, num
 use Rattle.isp_page.specs.declared.page.Page.{Page}
 use Rattle.isp_page.specs.declared.page.PageNo.{PageNo}
 use Rattle.isp_pool.specs.declared.frames.Frame.{Frame}
-use Rattle.isp_pool.specs.Frames.{IsPool, PoolState, edited, frame_at, frame_in, is_dirty, is_pinned, one_if, page_of as page_in}
+use Rattle.isp_pool.specs.Frames.{IsPool, PoolState, edited, frame_at, frame_in, is_cleanable, is_dirty, is_pinned, one_if, page_of as page_in}
 use Rattle.isp_pool.proofs.StateLaws.{dirty_after, none_dirty}
 use Rattle.isp_frames.proofs.NowLaws.{AreApart, cleaned_clean, edited_is, flagged_now, frame_below, in_place, in_place_now, number_is, pool_apart, set_cases, some_is}
 use Rattle.isp_frames.proofs.KeptLaws.{cleaned_below, cleaned_none, cleaned_one, cleaned_twice, kept_pinned}
 use Rattle.isp_frames.proofs.PinLaws.{covered_in_place, kept_pin}
+use Rattle.isp_frames.proofs.UseOrder.{later_more, later_none}
+use Rattle.isp_recency.specs.Recent.{last_where}
 
 abbrev clean_flag : Frame → Frame
 clean_flag f = record f { dirty = false }
@@ -76,6 +78,7 @@ taken_none s =
     let up : count_by is_dirty s.frames + 0 ≡ count_by is_dirty s.frames = omega arith in
     record {
       cleaned = cleaned_none s;
+      order = later_none s;
       count = up;
       clean = λ k d inside. absurd (omega arith);
       distinct = tt;
@@ -83,9 +86,9 @@ taken_none s =
       gathered = λ placed region c. gathered_none s.frames placed region c;
     }
 
-pub taken_more : (old s : PoolState) (batch : List (PageNo × Page)) (i : ℕ) (entry : PageNo × Page) → IsPool s → Some entry ≡ numbered (frame_at s i) → is_dirty (frame_at s i) ≡ true → is_pinned (frame_at s i) ≡ false
-    → IsTaken old s batch → IsTaken old (cleaned_at s i) (batch ++ entry ∷ [])
-taken_more old s batch i entry pool has dirty flag t =
+pub taken_more : (old s : PoolState) (batch : List (PageNo × Page)) (i : ℕ) (entry : PageNo × Page) → IsPool s → Some entry ≡ numbered (frame_at s i) → is_dirty (frame_at s i) ≡ true → ((k : ℕ) → is_pinned (frame_at s k) ≡ false)
+    → Some i ≡ last_where (λ k. is_cleanable (frame_at s k)) s.recent → IsTaken old s batch → IsTaken old (cleaned_at s i) (batch ++ entry ∷ [])
+taken_more old s batch i entry pool has dirty unpinned next t =
     let by = numbered_by (frame_at s i) entry has in
     let f = by.frame in
     let numbers : List ℕ = map number_of batch in
@@ -107,6 +110,7 @@ taken_more old s batch i entry pool has dirty flag t =
     (set_cases s.frames i (clean_flag f) lt k h (ap (λ (fs : List (Option Frame)). frame_in fs k) (sym set_is) ∙ there)) in
     record {
       cleaned = cleaned_twice old s (cleaned_at s i) t.cleaned (cleaned_one s i f by.there);
+      order = later_more old s i pool t.cleaned unpinned (sym next) t.order;
       count = omega arith;
       clean = subst (λ (ns : List ℕ). All (IsCleanPage (edited s.frames i clean_flag)) ns) (sym more)
           (All-append (IsCleanPage (edited s.frames i clean_flag)) numbers (number_of entry ∷ []) (λ k d inside. still (get_or numbers k d) (t.clean k d inside))
@@ -117,7 +121,7 @@ taken_more old s batch i entry pool has dirty flag t =
       below = λ pages below. subst (λ (ns : List ℕ). All (λ page. page < pages) ns) (sym more)
           (All-append (λ page. page < pages) numbers (number_of entry ∷ []) (t.below pages below)
           (All-cons (λ page. page < pages) (number_of entry) [] (subst (λ n. n < pages) (sym number) (cleaned_below old s pages t.cleaned below i f by.there)) (λ k d inside. absurd (omega arith))));
-      gathered = λ placed region c. gathered_more old.frames s.frames placed region batch i entry (pool_apart s pool) has flag c (t.gathered placed region c);
+      gathered = λ placed region c. gathered_more old.frames s.frames placed region batch i entry (pool_apart s pool) has (unpinned i) c (t.gathered placed region c);
     }
 
 -- one page alone

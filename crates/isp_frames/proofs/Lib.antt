@@ -4,3 +4,4 @@ pub mod KeptLaws
 pub mod HeldLaws
 pub mod Gathering
 pub mod CacheLaws
+pub mod UseOrder

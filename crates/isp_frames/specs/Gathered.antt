@@ -4,7 +4,7 @@ use Rattle.isp_disk.specs.Moments.{Agree, Region, either}
 use Rattle.isp_doublewrite.specs.Batches.{number_of, whole_page}
 use Rattle.isp_format.specs.Doublewrite.{AreDistinct}
 use Rattle.isp_format.specs.Ranges.{Contents, puts}
-use Rattle.isp_frames.specs.Held.{AreBelow, AreClean, IsCleaned, now_over, pinned_places}
+use Rattle.isp_frames.specs.Held.{AreBelow, AreClean, IsCleaned, LeavesLaterUsed, now_over, pinned_places}
 use Rattle.isp_page.specs.declared.page.Page.{Page}
 use Rattle.isp_page.specs.declared.page.PageNo.{PageNo}
 use Rattle.isp_pool.specs.Frames.{PoolState, frame_in, is_dirty}
@@ -27,9 +27,11 @@ pub record IsGathered (old new : List (Option Frame)) (placed : Contents) (regio
 abbrev pub IsCleanPage : List (Option Frame) → ℕ → Type 0
 IsCleanPage frames page = (i : ℕ) (frame : Frame) → frame_in frames i ≡ Some frame → frame.page.0 ≡ page → frame.dirty ≡ false
 
--- Dirty pages were taken, each once: their frames count as clean, and nothing else was done.
+-- Dirty pages were taken, each once and the least recently used first: their frames count as clean, and nothing else was
+-- done.
 pub record IsTaken (old new : PoolState) (batch : List (PageNo × Page)) : Type 0 where
   pub cleaned : IsCleaned old new
+  pub order : LeavesLaterUsed old new
   pub count : count_by is_dirty new.frames + length batch ≡ count_by is_dirty old.frames
   pub clean : All (IsCleanPage new.frames) (map number_of batch)
   pub distinct : AreDistinct (map number_of batch)

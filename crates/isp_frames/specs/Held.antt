@@ -4,8 +4,9 @@ use Rattle.isp_disk.specs.Moments.{Region, either, in_range, no_place}
 use Rattle.isp_format.specs.Ranges.{Contents, Range, page_bytes, page_of, puts}
 use Rattle.isp_page.specs.declared.page.Page.{Page}
 use Rattle.isp_page.specs.declared.page.PageNo.{PageNo}
-use Rattle.isp_pool.specs.Frames.{PoolState, frame_at, frame_in, is_pinned, loaded, page_of as page_in, used, victim_of, with_frame}
+use Rattle.isp_pool.specs.Frames.{PoolState, frame_at, frame_in, is_dirty, is_pinned, loaded, page_of as page_in, used, victim_of, with_frame}
 use Rattle.isp_pool.specs.declared.frames.Frame.{Frame}
+use Rattle.isp_recency.specs.Recent.{has}
 
 -- the page of a frame as a range, whole
 abbrev pub whole_frame : Frame → Range
@@ -59,6 +60,17 @@ pub record IsCleaned (old new : PoolState) : Type 0 where
   pub count : length new.frames ≡ length old.frames
   pub recent : new.recent ≡ old.recent
   pub frames : (i : ℕ) → but_dirty (frame_at new i) ≡ but_dirty (frame_at old i)
+
+-- one number stands before another in a list
+abbrev pub StandsBefore : ℕ → ℕ → List ℕ → Type 0
+StandsBefore i j [] = ⊥
+StandsBefore i j (x ∷ xs) = ((x ≡ i) × (has xs j ≡ true)) ⊎ StandsBefore i j xs
+
+-- each dirty frame that was left was used later than each that was cleaned
+abbrev pub LeavesLaterUsed : PoolState → PoolState → Type 0
+LeavesLaterUsed old new =
+    (i j : ℕ) → is_dirty (frame_at new i) ≡ true → is_dirty (frame_at old j) ≡ true → is_dirty (frame_at new j) ≡ false
+    → StandsBefore i j old.recent
 
 -- the page in a frame with its number
 abbrev pub numbered : Option Frame → Option (PageNo × Page)

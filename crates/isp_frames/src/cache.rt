@@ -16,17 +16,20 @@ use isp_stable::Stable;
 
 /// A file, the frames with some of its pages, and room for what is on its way between them.
 pub struct Cache<W: World> {
+    /// The file, with its log.
     pub stable: Stable<W>,
+    /// The frames.
     pub pool: Pool,
-    /// Room for the pages of a batch.
+    /// Room for the pages of a batch, with their numbers.
     pub batch: Vec<(PageNo, Page)>,
     /// Room for a page that is read.
     pub page: Page,
 }
 
 impl<W: World> Cache<W> {
-    /// The frame that holds the page. Where none does it is read into the one that is next to go, whose page is written in
-    /// place before if it is dirty. One frame at least is unpinned.
+    /// The frame that holds the page, which counts as last used from here on. A page that is held costs no call of the disk.
+    /// Any other is read into the frame that is next to go, whose page is written in place before if it is dirty. One frame
+    /// at least is unpinned.
     pub fn hold(&mut self, p: PageNo) -> Result<usize, Failed>
         requires quiet { Quiet (W.pending self.old.stable.world) }
         requires page { p.0 < self.old.stable.pages }

@@ -1,11 +1,12 @@
 //! Dirty pages written in place.
-ghost use Rattle.std.specs.Prelude.{◌≡◌, ℕ, ◌+◌, ◌<◌, ◌≤◌, true, false, count_by, length, min, vec_capacity, IfOk, IsSome, OnOk};
+ghost use Rattle.std.specs.Prelude.{◌≡◌, ℕ, ◌+◌, ◌<◌, ◌≤◌, true, false, count_by, length, min, vec_capacity, IfOk, IsSome, OnOk, Some};
 ghost use Rattle.isp_disk.specs.Moments.{Quiet};
 ghost use Rattle.isp_disk.specs.Outside.{HasCause};
 ghost use Rattle.isp_frames.specs.Cached.{IsCached, KeepsCached};
 ghost use Rattle.isp_frames.specs.Gathered.{IsTaken};
-ghost use Rattle.isp_frames.specs.Held.{AreBelow, IsCleaned};
-ghost use Rattle.isp_pool.specs.Frames.{PoolState, frame_at, is_dirty, is_held, is_pinned};
+ghost use Rattle.isp_frames.specs.Held.{AreBelow, IsCleaned, LeavesLaterUsed};
+ghost use Rattle.isp_pool.specs.Frames.{PoolState, frame_at, is_cleanable, is_dirty, is_held, is_pinned};
+ghost use Rattle.isp_recency.specs.Recent.{last_where};
 ghost use Rattle.isp_stable.specs.File.{KeepsShape, StandsOnly, flushed};
 
 use crate::cache::{Cache, numbered_page};
@@ -13,11 +14,12 @@ use isp_disk::{Failed, World};
 use isp_page::{Page, PageNo};
 use isp_pool::Pool;
 
-/// How many pages a batch has at most.
+/// How many pages a batch has at most: as many as there are copies in the doublewrite area.
 const MOST_PAGES: usize = 64;
 
 impl<W: World> Cache<W> {
-    /// Writes up to 64 dirty pages in place, the least recently used first. Answers how many. No page is pinned.
+    /// Writes up to 64 dirty pages in place, the least recently used first. Answers how many; where none is dirty the disk
+    /// isn't called. No page is pinned. Behind a failed call frames may count as clean whose pages weren't written.
     pub fn clean_some(&mut self) -> Result<u32, Failed>
         requires quiet { Quiet (W.pending self.old.stable.world) }
         requires below { AreBelow self.old.stable.pages self.old.pool.frames }
@@ -29,6 +31,7 @@ impl<W: World> Cache<W> {
         ensures keeps { IsSome (W.printed self.old.stable.world) → (cached : IsCached W.World self.old)
             → OnOk result (KeepsCached W.World self.old self.new cached.file.batches) }
         ensures cleaned { OnOk result (IsCleaned self.old.pool self.new.pool) }
+        ensures order { OnOk result (LeavesLaterUsed self.old.pool self.new.pool) }
         ensures stops { IsSome (W.printed self.old.stable.world) → (cached : IsCached W.World self.old)
             → StandsOnly W.World self.old.stable.world self.new.stable.world (λ contents. contents ≡ flushed W.World self.old.stable cached.file.batches) }
         ensures log { self.new.stable.log ≡ self.old.stable.log }
@@ -45,7 +48,8 @@ impl<W: World> Cache<W> {
         Ok(self.batch.len() as u32)
     }
 
-    /// Writes all dirty pages in place. No page is pinned.
+    /// Writes all dirty pages in place, in batches of up to 64. No page is pinned. A failed call leaves what one of
+    /// `clean_some` does.
     pub fn clean_all(&mut self) -> Result<(), Failed>
         requires quiet { Quiet (W.pending self.old.stable.world) }
         requires below { AreBelow self.old.stable.pages self.old.pool.frames }
@@ -89,11 +93,12 @@ fn gather(pool: &mut Pool, batch: &mut Vec<(PageNo, Page)>)
     }
 }
 
-// Takes one page more.
+// Takes one page more, the least recently used of those that are dirty.
 fn take(pool: &mut Pool, frame: usize, batch: &mut Vec<(PageNo, Page)>)
     requires held { is_held (frame_at pool.old frame) ≡ true }
     requires dirty { is_dirty (frame_at pool.old frame) ≡ true }
-    requires unpinned { is_pinned (frame_at pool.old frame) ≡ false }
+    requires unpinned { (i : ℕ) → is_pinned (frame_at pool.old i) ≡ false }
+    requires next { Some frame ≡ last_where (λ i. is_cleanable (frame_at pool.old i)) pool.old.recent }
     requires room { length batch.old.items < vec_capacity batch.old }
     ensures taken { (old : PoolState) → IsTaken old pool.old batch.old.items → IsTaken old pool.new batch.new.items }
     ensures count { length batch.new.items ≡ length batch.old.items + 1 }

@@ -6,5 +6,7 @@
 
 mod cache;
 mod cleaning;
+#[cfg(test)]
+mod tests;
 
 pub use cache::Cache;

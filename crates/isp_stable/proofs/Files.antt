@@ -1,14 +1,11 @@
 -- A file between two calls, over any world.
-use Rattle.std.proofs.Common.{◌≡◌, ◌≢◌, ◌⊎◌, inl, inr, ⊎_elim, ℕ, List, [], ◌∷◌, ◌++◌, Option, refl, sym, ◌∙◌, ap, subst}
+use Rattle.std.proofs.Common.{◌≡◌, ℕ, List, refl, sym, subst}
 use Rattle.isp_disk.specs.Moments.{Image, Agree, LeavesOnly, no_place}
 use Rattle.isp_disk.specs.declared.world.World.{Ghosts}
 use Rattle.isp_disk.proofs.Moments.{widens}
-use Rattle.isp_format.specs.Contents.{StandsFor, ranges_of}
-use Rattle.isp_format.specs.Control.{pages_in}
-use Rattle.isp_format.specs.Doublewrite.{area}
+use Rattle.isp_format.specs.Contents.{StandsFor}
 use Rattle.isp_format.specs.Log.{IsLog, Transaction, log_of}
-use Rattle.isp_format.specs.Ranges.{Contents, puts}
-use Rattle.isp_stable.specs.File.{IsFile, StandsOnly, flushed, placed}
+use Rattle.isp_stable.specs.File.{IsFile, StandsOnly, flushed}
 use Rattle.isp_stable.specs.declared.stable.Stable.{Stable}
 use Rattle.isp_stable.proofs.Moves.{IsBeside, stands_closed}
 

@@ -1,10 +1,10 @@
 -- What images have that differ from a file in the log alone, or in the copies and the pages alone.
-use Rattle.std.proofs.Common.{◌≡◌, ◌≢◌, ◌⊎◌, inl, inr, ⊎_elim, ℕ, ◌+◌, ◌*◌, ◌<◌, ◌≤◌, false, List, [], ◌∷◌, ◌++◌, All, length, refl, sym, ◌∙◌, ap, subst, arith}
+use Rattle.std.proofs.Common.{◌≡◌, ◌≢◌, ◌⊎◌, inl, inr, ⊎_elim, ℕ, ◌+◌, ◌*◌, ◌<◌, false, List, [], ◌∷◌, ◌++◌, sym, ◌∙◌, ap, subst, arith}
 use Rattle.std.proofs.lemmas.Grind.{flat_map-append}
 use Rattle.std.proofs.lemmas.List.{append-nil}
 use Rattle.isp_disk.specs.Moments.{Image, Agree, in_range, slice}
-use Rattle.isp_doublewrite.specs.Batches.{BatchLeft, IsBatchDone}
-use Rattle.isp_doublewrite.specs.Places.{batch_places, gate_place, page_places, staged_places}
+use Rattle.isp_doublewrite.specs.Batches.{IsBatchDone}
+use Rattle.isp_doublewrite.specs.Places.{batch_places, gate_place, staged_places}
 use Rattle.isp_doublewrite.proofs.InPlace.{pages_above}
 use Rattle.isp_format.specs.Contents.{StandsFor, ranges_of}
 use Rattle.isp_format.specs.Control.{IsControl, fanout_in, pages_in}

@@ -1,12 +1,12 @@
 -- A file between two calls: pages in their places, and batches in its log; and what a stop within a call leaves of it.
-use Rattle.std.specs.Prelude.{◌≡◌, ◌≢◌, ◌⊎◌, ℕ, List, [], ◌∷◌, ◌++◌, Option}
-use Rattle.isp_disk.specs.Moments.{Image, LeavesOnly, Quiet}
+use Rattle.std.specs.Prelude.{◌≡◌, ◌≢◌, List}
+use Rattle.isp_disk.specs.Moments.{LeavesOnly}
 use Rattle.isp_disk.specs.declared.world.World.{Ghosts}
 use Rattle.isp_format.specs.Contents.{StandsFor, ranges_of}
 use Rattle.isp_format.specs.Control.{IsControl, fanout_in, pages_in}
 use Rattle.isp_format.specs.Doublewrite.{area, doublewrite_gate}
 use Rattle.isp_format.specs.Log.{IsLog, Transaction, log_of}
-use Rattle.isp_format.specs.Ranges.{Contents, Range, puts}
+use Rattle.isp_format.specs.Ranges.{Contents, puts}
 use Rattle.isp_stable.specs.declared.stable.Stable.{Stable}
 
 module _ {W : Type 0} (g : Ghosts W) where

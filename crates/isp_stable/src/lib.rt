@@ -4,5 +4,7 @@
 #![tactic(auto)]
 
 mod stable;
+#[cfg(test)]
+mod tests;
 
 pub use stable::Stable;

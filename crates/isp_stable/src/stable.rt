@@ -22,9 +22,13 @@ const AREA: u64 = 1_314_816;
 
 /// A file of pages with its redo log, between two calls: nothing is pending, and no copy counts.
 pub struct Stable<W: World> {
+    /// The disk that has the file, at its beginning.
     pub world: W,
+    /// The place behind the last batch of the log.
     pub log: Log,
+    /// How many pages the file has.
     pub pages: u32,
+    /// How many entries a page of its R-trees has at most.
     pub fanout: u32,
 }
 
@@ -46,7 +50,8 @@ impl<W: World> Stable<W> {
         Ok(())
     }
 
-    /// The range of the log at a place, as `isp_redo::read_range`.
+    /// The range of the log at a place, with its bytes at the front of `into`; None at the end of the log. The place is 0
+    /// for the first range, and else the `next` of the range before it.
     pub fn read_range(
         &mut self,
         from: u64,
@@ -95,8 +100,8 @@ impl<W: World> Stable<W> {
         Ok(())
     }
 
-    /// Appends a batch with one mini-transaction. A stop leaves the contents without its ranges or with them; after it,
-    /// with them.
+    /// Appends a batch with one mini-transaction, whose bytes are the body. A stop within it leaves the contents without
+    /// the ranges or with them; a stop after it leaves them with the ranges.
     pub fn append(&mut self, body: &[u8]) -> Result<(), Failed>
         requires quiet { Quiet (W.pending self.old.world) }
         requires fits { self.old.log.end + 5 + length body.now < log_bytes }
@@ -117,7 +122,8 @@ impl<W: World> Stable<W> {
         Ok(())
     }
 
-    /// Empties the log. Where the pages stand in their places, a stop leaves the same contents.
+    /// Empties the log; an empty one is left alone, with no call of the disk. Where all that the log has stands in its
+    /// pages' places, a stop at any moment leaves the same contents.
     pub fn empty_log(&mut self) -> Result<(), Failed>
         requires quiet { Quiet (W.pending self.old.world) }
         ensures untouched { self.old.log.end ≡ 0 → self.new ≡ self.old }

@@ -1,6 +1,7 @@
 use Rattle.std.proofs.Common.{◌≡◌, ◌+◌, ◌≤◌, ℕ, List, arith, count_by, length, sym, subst}
 use Rattle.isp_frames.specs.Gathered.{IsTaken}
 use Rattle.isp_frames.proofs.Gathering.{none_left, taken_none}
+use Rattle.isp_frames.proofs.KeptLaws.{cleaned_unpinned}
 use Rattle.isp_page.specs.declared.page.Page.{Page}
 use Rattle.isp_page.specs.declared.page.PageNo.{PageNo}
 use Rattle.isp_pool.specs.Frames.{is_dirty}
@@ -22,3 +23,6 @@ returns-in_default-clause-count c =
     let none : count_by is_dirty c.taking.pool.frames ≡ 0 = none_left c.args.pool.now c.taking.pool so_far.taken.cleaned c.requires.unpinned (c.last_dirty.ensures.none c.in_default.is) in
     let all : count_by is_dirty c.taking.pool.frames + length c.taking.batch.items ≡ count_by is_dirty c.args.pool.now.frames = so_far.taken.count in
     omega (arith, none, all, so_far.most)
+
+pub take-requires-clause-unpinned : goal.take-requires-clause-unpinned
+take-requires-clause-unpinned c = λ i. cleaned_unpinned c.args.pool.now c.taking.pool c.taking.invariant.taken.cleaned c.requires.unpinned i

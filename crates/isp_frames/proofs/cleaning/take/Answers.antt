@@ -10,6 +10,6 @@ pub returns-clause-taken : goal.returns-clause-taken
 returns-clause-taken c = λ old so_far.
     let items : List (PageNo × Page) = c.args.batch.now.items in
     let entry = c.numbered_page.result in
-    let more = taken_more old c.args.pool.now items c.args.frame entry c.frames.ensures.kept c.numbered_page.ensures c.requires.dirty c.requires.unpinned so_far in
+    let more = taken_more old c.args.pool.now items c.args.frame entry c.frames.ensures.kept c.numbered_page.ensures c.requires.dirty c.requires.unpinned c.requires.next so_far in
     subst (λ (batch : List (PageNo × Page)). IsTaken old c.clean.new.self batch) (sym c.push_reserved.ensures.items)
     (subst (λ (s : PoolState). IsTaken old s (items ++ entry ∷ [])) (sym c.clean.ensures) more)

@@ -1,4 +1,4 @@
-use Rattle.std.proofs.Common.{◌≡◌, ℕ, length, ◌∙◌, ap}
+use Rattle.std.proofs.Common.{ℕ, ◌∙◌, ap}
 use Rattle.isp_disk.specs.Moments.{slice}
 use Rattle.isp_stable.proofs.stable.fill.Goals as goal
 

@@ -1,12 +1,5 @@
-use Rattle.std.proofs.Common.{◌≡◌, ◌⊎◌, inl, inr, ⊎_elim, ◌+◌, ℕ, List, [], ◌∷◌, ◌++◌, length, refl, sym, ◌∙◌, ap, subst}
-use Rattle.isp_disk.specs.Moments.{Image}
+use Rattle.std.proofs.Common.{◌+◌, [], ◌∷◌, ◌++◌, length}
 use Rattle.isp_disk.proofs.Moments.{widens}
-use Rattle.isp_format.specs.Contents.{ranges_of}
-use Rattle.isp_format.specs.Log.{Transaction}
-use Rattle.isp_format.specs.Ranges.{Contents, Range, puts}
-use Rattle.isp_format.proofs.Puts.{puts_append}
-use Rattle.isp_stable.specs.File.{IsFile, flushed, placed}
-use Rattle.isp_stable.specs.declared.stable.Stable.{Stable}
 use Rattle.isp_stable.proofs.Files.{beside, file_of}
 use Rattle.isp_stable.proofs.Moves.{beside_log, left_by_log, put_more}
 use Rattle.isp_stable.proofs.stable.Stable.append.Goals as goal

@@ -1,4 +1,4 @@
-use Rattle.std.proofs.Common.{◌≡◌, ◌⊎◌, inl, inr, ⊎_elim, ℕ, List, [], ◌∷◌, refl, sym, ◌∙◌, ap}
+use Rattle.std.proofs.Common.{[]}
 use Rattle.isp_disk.proofs.Moments.{widens}
 use Rattle.isp_stable.proofs.Files.{beside, file_of}
 use Rattle.isp_stable.proofs.Moves.{beside_log, left_by_log, put_none}

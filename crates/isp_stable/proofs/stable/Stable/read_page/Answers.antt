@@ -1,4 +1,4 @@
-use Rattle.std.proofs.Common.{◌≡◌, ◌+◌, ◌*◌, ℕ, ◌∙◌, arith}
+use Rattle.std.proofs.Common.{◌∙◌, arith}
 use Rattle.isp_stable.proofs.Files.{reads_only}
 use Rattle.isp_stable.proofs.Moves.{page_placed}
 use Rattle.isp_stable.proofs.stable.Stable.read_page.Goals as goal

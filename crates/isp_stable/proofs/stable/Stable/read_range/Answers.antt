@@ -1,5 +1,4 @@
-use Rattle.std.proofs.Common.{◌≡◌, ◌≤◌, ℕ, sym, subst}
-use Rattle.isp_format.specs.Control.{IsPages}
+use Rattle.std.proofs.Common.{◌≤◌, ℕ, subst}
 use Rattle.isp_stable.proofs.Files.{reads_only}
 use Rattle.isp_stable.proofs.stable.Stable.read_range.Goals as goal
 

@@ -1,9 +1,8 @@
-use Rattle.std.proofs.Common.{◌≡◌, ℕ, List, length, map, refl, sym, subst}
+use Rattle.std.proofs.Common.{ℕ, map, refl, sym, subst}
 use Rattle.isp_disk.specs.Moments.{Image}
 use Rattle.isp_disk.proofs.Moments.{widens}
 use Rattle.isp_doublewrite.specs.Batches.{number_of, whole_page}
 use Rattle.isp_format.specs.Log.{IsLog, log_of}
-use Rattle.isp_format.specs.Ranges.{Contents, Range}
 use Rattle.isp_stable.specs.File.{flushed}
 use Rattle.isp_stable.proofs.Files.{beside, file_of}
 use Rattle.isp_stable.proofs.Moves.{beside_batch, left_by_batch, log_beside_batch, log_by_batch}
