@@ -1,0 +1,6 @@
+pub mod Passing
+pub mod Keeping
+pub mod Spelling
+pub mod Putting
+pub mod Settled
+pub mod Logged

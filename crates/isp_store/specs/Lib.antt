@@ -1,0 +1,5 @@
+pub mod State
+pub mod Running
+pub mod Inside
+pub mod Starting
+pub mod Recovered
