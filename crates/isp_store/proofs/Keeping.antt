@@ -1,34 +1,32 @@
 -- What holds of a running store goes on over what a call does to its frames.
-use Rattle.std.proofs.Common.{◌≡◌, ◌≢◌, ◌⊎◌, inl, inr, ⊎_elim, ℕ, suc, ◌+◌, ◌*◌, ◌-◌, ◌<◌, ◌≤◌, ◌==◌, ◌||◌, Bool, true, false, List, [], ◌∷◌, All, Option, Some, None, get_or, length, length-set, map, set, refl, sym, ◌∙◌, ap, subst, arith}
+use Rattle.std.proofs.Common.{◌≡◌, ⊎_elim, ℕ, ◌+◌, ◌*◌, ◌-◌, ◌<◌, ◌≤◌, ◌==◌, ◌||◌, Bool, true, false, List, [], ◌∷◌, All, Option, Some, None, get_or, length, length-set, map, set, refl, sym, ◌∙◌, ap, subst, arith}
 use Rattle.std.specs.Prelude.{IsSome, count_by}
 use Rattle.std.specs.List.{list_any}
 use Rattle.std.proofs.lemmas.Bool.{cases_eq, false≢true}
 use Rattle.std.proofs.lemmas.List.{get_or-map, length-map}
 use Rattle.std.proofs.lemmas.List.Elements.{All-head, All-tail}
 use Rattle.std.proofs.lemmas.Bool.Decides.{nat_tests}
-use Rattle.isp_disk.specs.Moments.{Agree, Quiet, either, in_range}
+use Rattle.isp_disk.specs.Moments.{Quiet, in_range}
 use Rattle.isp_disk.specs.declared.world.World.{Ghosts}
 use Rattle.isp_format.specs.Contents.{ranges_of}
 use Rattle.isp_format.specs.Log.{log_bytes}
-use Rattle.isp_format.specs.Ranges.{Contents, Range, cover, page_bytes, puts}
+use Rattle.isp_format.specs.Ranges.{cover, page_bytes}
 use Rattle.isp_format.proofs.Places.{before_end, from_start, inside, neither, not_first, not_second}
 use Rattle.isp_format.proofs.Puts.{puts_outside}
 use Rattle.isp_frames.specs.Cached.{IsCached, KeepsCached}
-use Rattle.isp_frames.specs.Held.{AreBelow, AreClean, IsHeldAt, now_over, page_places, pinned_places}
+use Rattle.isp_frames.specs.Held.{AreBelow, IsHeldAt, now_over, page_places, pinned_places}
 use Rattle.isp_frames.specs.declared.cache.Cache.{Cache}
-use Rattle.isp_frames.proofs.NowLaws.{AreApart, IsFitting, edited_is, flagged_now, frame_below, pinned_clean, one_frame, pool_apart, set_apart, set_away, set_cases, set_here, some_is}
+use Rattle.isp_frames.proofs.NowLaws.{AreApart, edited_is, flagged_now, frame_below, pinned_clean, one_frame, pool_apart, set_apart, set_away, set_cases, set_here, some_is}
 use Rattle.isp_frames.proofs.PinLaws.{pinned_after, pinned_there}
 use Rattle.isp_mini.specs.Extents.{AreExtents, IsExtent, extent_cover, extent_place, largest_body, page_number, with_extent}
 use Rattle.isp_mini.specs.declared.changes.Extent.{Extent}
 use Rattle.isp_mini.proofs.ExtentLaws.{all_with, as_many_with, below_with, extents_with, one_longer_with}
-use Rattle.isp_page.specs.declared.page.Page.{Page}
 use Rattle.isp_page.specs.declared.page.PageNo.{PageNo}
-use Rattle.isp_pool.specs.Frames.{IsPool, PoolState, edited, frame_at, frame_in, fresh_frame, is_dirty, is_pinned, loaded, one_if, page_of as page_in, used, with_frame}
+use Rattle.isp_pool.specs.Frames.{IsPool, PoolState, edited, frame_at, frame_in, fresh_frame, is_dirty, is_pinned, loaded, one_if, page_of as page_in, with_frame}
 use Rattle.isp_pool.specs.declared.frames.Frame.{Frame}
 use Rattle.isp_pool.proofs.StateLaws.{dirty_after, loaded_count}
 use Rattle.isp_redo.specs.declared.log.Log.{Log}
-use Rattle.isp_stable.specs.File.{IsFile, KeepsShape, flushed, placed}
-use Rattle.isp_stable.specs.declared.stable.Stable.{Stable}
+use Rattle.isp_stable.specs.File.{KeepsShape, flushed, placed}
 use Rattle.isp_store.specs.Running.{AreFrames, IsAlong, IsPinnedIn, IsRunning, IsUnpinned}
 
 -- The bytes of an extent lie in its page, which is pinned.
@@ -105,7 +103,7 @@ count_kept frames i frame lt free pin =
 pub frames_held : (pages : ℕ) (p : PageNo) (i : ℕ) (old new : PoolState) (extents : List Extent) → AreFrames pages old extents → IsHeldAt p i old new → IsPool new → AreBelow pages new.frames → AreFrames pages new extents
 frames_held pages p i old new extents are held pool below = ⊎_elim
     (λ here. subst (λ (s : PoolState). AreFrames pages s extents) (sym here.1)
-      (record { many = are.many; apart = are.apart; below = are.below; pins = are.pins; pinned = are.pinned; inside = are.inside; extents = are.extents }))
+    (record { many = are.many; apart = are.apart; below = are.below; pins = are.pins; pinned = are.pinned; inside = are.inside; extents = are.extents }))
     (λ read.
     let page = read.0 in
     let fresh : Frame = fresh_frame p page in
@@ -113,14 +111,14 @@ frames_held pages p i old new extents are held pool below = ⊎_elim
     let lt = read.4 in
     let is : new ≡ loaded old i p page = read.5 in
     let made : AreFrames pages (loaded old i p page) extents = record {
-        many = subst (λ (n : ℕ). 64 ≤ n) (sym (loaded_count old i p page)) are.many;
-        apart = subst (λ (s : PoolState). AreApart s.frames) is (pool_apart new pool);
-        below = subst (λ (s : PoolState). AreBelow pages s.frames) is below;
-        pins = subst (λ (n : ℕ). n ≤ length extents) (sym (count_kept old.frames i fresh lt free refl)) are.pins;
-        pinned = pinned_kept old i fresh (loaded old i p page).recent extents free are.pinned;
-        inside = are.inside;
-        extents = are.extents;
-      } in
+      many = subst (λ (n : ℕ). 64 ≤ n) (sym (loaded_count old i p page)) are.many;
+      apart = subst (λ (s : PoolState). AreApart s.frames) is (pool_apart new pool);
+      below = subst (λ (s : PoolState). AreBelow pages s.frames) is below;
+      pins = subst (λ (n : ℕ). n ≤ length extents) (sym (count_kept old.frames i fresh lt free refl)) are.pins;
+      pinned = pinned_kept old i fresh (loaded old i p page).recent extents free are.pinned;
+      inside = are.inside;
+      extents = are.extents;
+    } in
     subst (λ (s : PoolState). AreFrames pages s extents) (sym is) made)
     held
 
@@ -139,10 +137,10 @@ set_many s i h many = subst (λ (n : ℕ). 64 ≤ n) (sym (length-set s.frames i
 
 same_apart : (s : PoolState) (i : ℕ) (f h : Frame) → AreApart s.frames → IsSame s i f h → AreApart (with_set s i h).frames
 same_apart s i f h apart same = set_apart s.frames i h apart (record {
-    below = frame_below s.frames i f same.there;
-    alone = λ k g away there page. away (one_frame s.frames apart k i g f there same.there (page ∙ ap (λ (p : PageNo). p.0) same.page));
-    whole = same.whole;
-  })
+  below = frame_below s.frames i f same.there;
+  alone = λ k g away there page. away (one_frame s.frames apart k i g f there same.there (page ∙ ap (λ (p : PageNo). p.0) same.page));
+  whole = same.whole;
+})
 
 same_below : (pages : ℕ) (s : PoolState) (i : ℕ) (f h : Frame) → AreBelow pages s.frames → IsSame s i f h → AreBelow pages (with_set s i h).frames
 same_below pages s i f h below same k g there = ⊎_elim
@@ -169,9 +167,9 @@ count_set s i f h there =
 pub frames_edited : (pages : ℕ) (s : PoolState) (i : ℕ) (f h : Frame) (extents : List Extent) → AreFrames pages s extents → IsSame s i f h → h.pinned ≡ f.pinned → AreFrames pages (with_set s i h) extents
 frames_edited pages s i f h extents are same flag =
     let count : count_by is_pinned (with_set s i h).frames ≡ count_by is_pinned s.frames =
-        let sum = count_set s i f h same.there in
-        let flags : one_if h.pinned ≡ one_if f.pinned = ap one_if flag in
-        omega (arith, sum, flags) in
+    let sum = count_set s i f h same.there in
+    let flags : one_if h.pinned ≡ one_if f.pinned = ap one_if flag in
+    omega (arith, sum, flags) in
     record {
       many = set_many s i h are.many;
       apart = same_apart s i f h are.apart same;
@@ -204,17 +202,17 @@ is_pinned_there s i f (extent ∷ extents) apart there each is = first (extent.p
 pub frames_pinned : (pages : ℕ) (s : PoolState) (i : ℕ) (f : Frame) (at end : ℕ) (extents : List Extent) → AreFrames pages s extents → frame_at s i ≡ Some f → at < end → end ≤ page_bytes → length (with_extent f.page at end extents) ≤ 48
     → AreFrames pages (with_set s i (record f { pinned = true })) (with_extent f.page at end extents)
 frames_pinned pages s i f at end extents are there some inside few = record {
-    many = set_many s i h are.many;
-    apart = same_apart s i f h are.apart same;
-    below = same_below pages s i f h are.below same;
-    pins = counted (list_any (λ other. other == f.page.0) (map page_number extents)) refl;
-    pinned = all_with (IsPinnedIn (with_set s i h)) f.page at end extents
-        (i, h, set_here s.frames i h (frame_below s.frames i f there), refl, refl)
-        (λ extent number old. (old.0, old.1, old.2, old.3 ∙ number, old.4))
-        (λ k d lt. same_pinned s i f h (get_or extents k d) same (λ was. refl) (are.pinned k d lt));
-    inside = below_with pages f.page at end extents (are.below i f there) are.inside;
-    extents = extents_with f.page at end extents some inside few are.extents;
-  }
+  many = set_many s i h are.many;
+  apart = same_apart s i f h are.apart same;
+  below = same_below pages s i f h are.below same;
+  pins = counted (list_any (λ other. other == f.page.0) (map page_number extents)) refl;
+  pinned = all_with (IsPinnedIn (with_set s i h)) f.page at end extents
+      (i, h, set_here s.frames i h (frame_below s.frames i f there), refl, refl)
+      (λ extent number old. (old.0, old.1, old.2, old.3 ∙ number, old.4))
+      (λ k d lt. same_pinned s i f h (get_or extents k d) same (λ was. refl) (are.pinned k d lt));
+  inside = below_with pages f.page at end extents (are.below i f there) are.inside;
+  extents = extents_with f.page at end extents some inside few are.extents;
+}
   where
     h : Frame
     h = record f { pinned = true }
@@ -245,14 +243,14 @@ extents_behind first extents are = record { each = All-tail IsExtent first exten
 -- the frame of the first extent's page is unpinned
 pub frames_unpinned : (pages : ℕ) (s : PoolState) (i : ℕ) (f : Frame) (first : Extent) (extents : List Extent) → AreFrames pages s (first ∷ extents) → frame_at s i ≡ Some f → f.page.0 ≡ first.page.0 → AreFrames pages (with_set s i (record f { pinned = false })) extents
 frames_unpinned pages s i f first extents are there page = record {
-    many = set_many s i h are.many;
-    apart = same_apart s i f h are.apart same;
-    below = same_below pages s i f h are.below same;
-    pins = omega (arith, pinned, count_set s i f h there, are.pins);
-    pinned = λ k d lt. moved (get_or extents k d) (other_pages first extents are.extents k d lt) (All-tail (IsPinnedIn s) first extents are.pinned k d lt);
-    inside = All-tail (λ extent. extent.page.0 < pages) first extents are.inside;
-    extents = extents_behind first extents are.extents;
-  }
+  many = set_many s i h are.many;
+  apart = same_apart s i f h are.apart same;
+  below = same_below pages s i f h are.below same;
+  pins = omega (arith, pinned, count_set s i f h there, are.pins);
+  pinned = λ k d lt. moved (get_or extents k d) (other_pages first extents are.extents k d lt) (All-tail (IsPinnedIn s) first extents are.pinned k d lt);
+  inside = All-tail (λ extent. extent.page.0 < pages) first extents are.inside;
+  extents = extents_behind first extents are.extents;
+}
   where
     h : Frame
     h = record f { pinned = false }

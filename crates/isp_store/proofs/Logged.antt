@@ -1,7 +1,5 @@
 -- A store whose open mini-transaction went to the log.
-use Rattle.std.proofs.Common.{◌≡◌, ◌≢◌, ◌⊎◌, inl, inr, ⊎_elim, ℕ, ◌+◌, ◌<◌, ◌≤◌, List, [], ◌∷◌, ◌++◌, length, refl, sym, ◌∙◌, ap, subst, arith}
-use Rattle.std.specs.Prelude.{IsSome}
-use Rattle.isp_disk.specs.Moments.{Agree}
+use Rattle.std.proofs.Common.{◌≡◌, ◌⊎◌, inl, inr, ⊎_elim, ℕ, ◌+◌, ◌<◌, ◌≤◌, List, [], ◌∷◌, ◌++◌, length, sym, ◌∙◌, ap, subst, arith}
 use Rattle.isp_disk.specs.declared.world.World.{Ghosts}
 use Rattle.isp_disk.proofs.Moments.{widens}
 use Rattle.isp_format.specs.Contents.{ranges_of}
@@ -50,11 +48,11 @@ module _ {W : Type 0} (g : Ghosts W) where
       let ranges : Transaction = ranges_in (now_over pool.frames (placed g old)) extents in
       let now_is : now_over unpinned.frames (placed g new) ≡ now_over pool.frames (placed g old) = un.now (placed g new) ∙ ap (now_over pool.frames) same in
       let flushed_is : flushed g new has.0.batches ≡ now_over pool.frames (placed g old) =
-          ap (λ (batches : List (List Transaction)). flushed g new batches) has.1
-          ∙ ap (λ (all : List Range). puts all (placed g new)) (ranges_more along.file.batches ranges)
-          ∙ puts_append (ranges_of along.file.batches) ranges (placed g new)
-          ∙ ap (λ (contents : Contents). puts ranges (puts (ranges_of along.file.batches) contents)) same
-          ∙ gives_now old pool extents along along.file in
+      ap (λ (batches : List (List Transaction)). flushed g new batches) has.1
+      ∙ ap (λ (all : List Range). puts all (placed g new)) (ranges_more along.file.batches ranges)
+      ∙ puts_append (ranges_of along.file.batches) ranges (placed g new)
+      ∙ ap (λ (contents : Contents). puts ranges (puts (ranges_of along.file.batches) contents)) same
+      ∙ gives_now old pool extents along along.file in
       record {
         file = has.0;
         clean = un.clean (placed g new) (subst (λ (contents : Contents). AreClean pool.frames contents) (sym same) along.clean);

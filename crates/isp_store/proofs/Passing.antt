@@ -1,5 +1,5 @@
 -- What a stop leaves of a call of a store, out of what it leaves of the call's calls of the world.
-use Rattle.std.proofs.Common.{◌≡◌, ◌≢◌, ◌⊎◌, inl, inr, ⊎_elim, false, ℕ, ◌+◌, ◌≤◌, List, [], Option, Some, None, Result, Ok, Err, take, refl, sym, ◌∙◌, ap, subst, arith}
+use Rattle.std.proofs.Common.{◌≡◌, ◌≢◌, ◌⊎◌, inl, inr, ⊎_elim, false, ℕ, ◌≤◌, List, [], Option, Some, None, Result, Ok, Err, take, refl, sym, ◌∙◌, ap, subst, arith}
 use Rattle.std.specs.Prelude.{IsSome}
 use Rattle.isp_disk.specs.Moments.{Image, Agree, During, Elapses, Keeps, Quiet, no_place}
 use Rattle.isp_disk.specs.Outside.{Prints, PrintsPart, told_behind}
@@ -16,7 +16,7 @@ use Rattle.isp_format.proofs.Places.{neither}
 use Rattle.isp_frames.specs.Held.{AreClean, now_over}
 use Rattle.isp_mini.specs.Extents.{extent_cover}
 use Rattle.isp_mini.specs.declared.changes.Extent.{Extent}
-use Rattle.isp_page.specs.Calls.{Adds, AddsNone, LeavesAlone, LeftWithin, Passes}
+use Rattle.isp_page.specs.Calls.{Adds, AddsNone, LeavesAlone, Passes}
 use Rattle.isp_pool.specs.Frames.{PoolState}
 use Rattle.isp_stable.specs.declared.stable.Stable.{Stable}
 use Rattle.isp_stable.specs.File.{IsFile, StandsOnly, flushed}

@@ -1,5 +1,5 @@
 -- A running store whose open mini-transaction put bytes into a page.
-use Rattle.std.proofs.Common.{◌≡◌, ◌≢◌, ◌⊎◌, inl, inr, ⊎_elim, ℕ, ◌+◌, ◌*◌, ◌-◌, ◌<◌, ◌≤◌, Bool, true, false, List, [], Option, Some, None, length, refl, sym, ◌∙◌, ap, subst, arith}
+use Rattle.std.proofs.Common.{◌≡◌, ◌⊎◌, inl, inr, ⊎_elim, ℕ, ◌+◌, ◌*◌, ◌<◌, ◌≤◌, Bool, true, false, List, Option, Some, None, length, refl, sym, ◌∙◌, ap, subst, arith}
 use Rattle.std.specs.Prelude.{IsSome, cond, nat_lt}
 use Rattle.std.specs.List.{position, position_or_len}
 use Rattle.std.specs.Option.{is_none, option_or}
@@ -7,21 +7,18 @@ use Rattle.std.proofs.lemmas.Bool.{cases_eq, false≢true}
 use Rattle.std.proofs.lemmas.List.Quantifiers.{position-Some}
 use Rattle.std.proofs.lemmas.List.Sums.{fails_before_first}
 use Rattle.std.proofs.lemmas.Bool.Decides.{nat_tests}
-use Rattle.isp_disk.specs.Moments.{Agree, LeavesOnly, Quiet, put}
+use Rattle.isp_disk.specs.Moments.{Quiet, put}
 use Rattle.isp_disk.specs.declared.world.World.{Ghosts}
 use Rattle.isp_format.specs.Log.{Transaction, log_bytes, log_of}
 use Rattle.isp_format.specs.Ranges.{Contents, page_bytes}
 use Rattle.isp_format.proofs.LogOnce.{log_once}
-use Rattle.isp_frames.specs.Cached.{IsCached, KeepsCached, now}
-use Rattle.isp_frames.specs.Held.{AreBelow, AreClean, IsHeldAt, now_over}
-use Rattle.isp_frames.specs.declared.cache.Cache.{Cache}
-use Rattle.isp_frames.proofs.NowLaws.{AreApart, changed_clean, changed_now, edited_is, flagged_now, frame_below, overwrite, pinned_clean, set_away, set_here, some_is}
-use Rattle.isp_mini.specs.Extents.{extent_cover, largest_body, with_extent}
+use Rattle.isp_frames.specs.Held.{AreClean, IsHeldAt, now_over}
+use Rattle.isp_frames.proofs.NowLaws.{AreApart, changed_clean, changed_now, edited_is, flagged_now, frame_below, overwrite, pinned_clean, set_here, some_is}
+use Rattle.isp_mini.specs.Extents.{largest_body, with_extent}
 use Rattle.isp_mini.specs.declared.changes.Extent.{Extent}
 use Rattle.isp_mini.proofs.ExtentLaws.{change_agrees}
-use Rattle.isp_page.specs.declared.page.Page.{Page}
 use Rattle.isp_page.specs.declared.page.PageNo.{PageNo}
-use Rattle.isp_pool.specs.Frames.{PoolState, changed, edited, frame_at, frame_in, is_held, is_unpinned, loaded, page_of as page_in, used, victim_of, with_frame}
+use Rattle.isp_pool.specs.Frames.{PoolState, changed, frame_at, frame_in, is_held, is_unpinned, loaded, page_of as page_in, victim_of, with_frame}
 use Rattle.isp_pool.specs.declared.frames.Frame.{Frame}
 use Rattle.isp_pool.proofs.PoolLaws.{length-overwritten}
 use Rattle.isp_pool.proofs.StateLaws.{edited_count, edited_other, loaded_count, loaded_here, loaded_other}
@@ -120,8 +117,13 @@ held_after p i old new held = ⊎_elim
     let is : new ≡ loaded old i p read.0 = read.5 in
     record {
       count = ap (λ (s : PoolState). length s.frames) is ∙ loaded_count old i p read.0;
-      held = inr (i, read.1, ap (λ (s : PoolState). page_in (frame_at s i)) is ∙ ap page_in (loaded_here old i p read.0 read.4), victim_case old i read.2,
-        λ k away. ap (λ (s : PoolState). page_in (frame_at s k)) is ∙ ap page_in (loaded_other old i p read.0 k away));
+      held = inr (
+        i,
+        read.1,
+        ap (λ (s : PoolState). page_in (frame_at s i)) is ∙ ap page_in (loaded_here old i p read.0 read.4),
+        victim_case old i read.2,
+        λ k away. ap (λ (s : PoolState). page_in (frame_at s k)) is ∙ ap page_in (loaded_other old i p read.0 k away),
+      );
     })
     held
 
@@ -134,12 +136,12 @@ page_here p i old new held = ⊎_elim
 -- after it the same pages stand in the same frames
 pub held_still : (p : PageNo) (old mid new : PoolState) → IsHeldAfter p old mid → length new.frames ≡ length mid.frames → HoldSame mid new → IsHeldAfter p old new
 held_still p old mid new held count same = record {
-    count = count ∙ held.count;
-    held = ⊎_elim
-        (λ here. inl (here.0, here.1, λ k. same k ∙ here.2 k))
-        (λ read. inr (read.0, read.1, same read.0 ∙ read.2, read.3, λ k away. same k ∙ read.4 k away))
-        held.held;
-  }
+  count = count ∙ held.count;
+  held = ⊎_elim
+      (λ here. inl (here.0, here.1, λ k. same k ∙ here.2 k))
+      (λ read. inr (read.0, read.1, same read.0 ∙ read.2, read.3, λ k away. same k ∙ read.4 k away))
+      held.held;
+}
 
 no_page_free : (o : Option Frame) → page_in o ≡ None → o ≡ None
 no_page_free None is = refl
@@ -153,12 +155,12 @@ held_page (Some f) (Some h) same is = refl
 -- before it
 pub still_held : (p : PageNo) (old mid new : PoolState) → length mid.frames ≡ length old.frames → HoldSame old mid → IsHeldAfter p mid new → IsHeldAfter p old new
 still_held p old mid new count same held = record {
-    count = held.count ∙ count;
-    held = ⊎_elim
-        (λ here. inl (here.0, sym (same here.0) ∙ here.1, λ k. here.2 k ∙ same k))
-        (λ read. inr (read.0, (λ k is. read.1 k (same k ∙ is)), read.2, ⊎_elim (λ none. inl (back read.0 none)) (λ all. inr (λ k lt. still k (all k (subst (λ (n : ℕ). k < n) (sym count) lt)))) read.3, λ k away. read.4 k away ∙ same k))
-        held.held;
-  }
+  count = held.count ∙ count;
+  held = ⊎_elim
+      (λ here. inl (here.0, sym (same here.0) ∙ here.1, λ k. here.2 k ∙ same k))
+      (λ read. inr (read.0, (λ k is. read.1 k (same k ∙ is)), read.2, ⊎_elim (λ none. inl (back read.0 none)) (λ all. inr (λ k lt. still k (all k (subst (λ (n : ℕ). k < n) (sym count) lt)))) read.3, λ k away. read.4 k away ∙ same k))
+      held.held;
+}
   where
     back : (k : ℕ) → frame_at mid k ≡ None → frame_at old k ≡ None
     back k is = no_page_free (frame_at old k) (sym (same k) ∙ ap page_in is)
@@ -170,8 +172,8 @@ pub put_holds : (s : PoolState) (i at : ℕ) (bytes : List ℕ) (f : Frame) → 
 put_holds s i at bytes f there k = ⊎_elim
     (λ is.
     let here : frame_at (with_bytes s i at bytes) i ≡ Some (pin (overwrite at bytes f)) =
-        ap (λ (p : PoolState). frame_at p i) (with_is (changed s i at bytes) i (overwrite at bytes f) pin (put_there s i at bytes f there))
-        ∙ set_here (changed s i at bytes).frames i (pin (overwrite at bytes f)) (frame_below (changed s i at bytes).frames i (overwrite at bytes f) (put_there s i at bytes f there)) in
+    ap (λ (p : PoolState). frame_at p i) (with_is (changed s i at bytes) i (overwrite at bytes f) pin (put_there s i at bytes f there))
+    ∙ set_here (changed s i at bytes).frames i (pin (overwrite at bytes f)) (frame_below (changed s i at bytes).frames i (overwrite at bytes f) (put_there s i at bytes f there)) in
     ap (λ (n : ℕ). page_in (frame_at (with_bytes s i at bytes) n)) is ∙ ap page_in here ∙ sym (ap (λ (n : ℕ). page_in (frame_at s n)) is ∙ ap page_in there))
     (λ away. ap page_in (edited_other (changed s i at bytes) i pin k away ∙ edited_other s i (overwrite at bytes) k away))
     (cases_eq k i)

@@ -1,21 +1,18 @@
 -- A running store with no change open: its contents are those that the file stands for, and with all pages clean those of
 -- the pages in their places.
-use Rattle.std.proofs.Common.{◌≡◌, ◌≢◌, ◌⊎◌, inl, inr, ⊎_elim, ℕ, zero, suc, ◌+◌, ◌*◌, ◌-◌, ◌<◌, ◌≤◌, Bool, true, false, List, [], ◌∷◌, All, Option, Some, None, length, refl, sym, ◌∙◌, ap, subst, cond, arith}
+use Rattle.std.proofs.Common.{◌≡◌, ℕ, zero, suc, ◌+◌, ◌*◌, ◌-◌, ◌≤◌, Bool, true, false, List, [], ◌∷◌, Option, Some, None, refl, sym, ◌∙◌, ap, subst, cond, arith}
 use Rattle.std.specs.Prelude.{IsSome, count_by, slice_index}
 use Rattle.std.proofs.lemmas.List.Elements.{All-nil}
 use Rattle.std.proofs.lemmas.List.Sums.{sum_by-cons}
-use Rattle.isp_disk.specs.Moments.{Agree, Quiet}
+use Rattle.isp_disk.specs.Moments.{Quiet}
 use Rattle.isp_disk.specs.declared.world.World.{Ghosts}
 use Rattle.isp_disk.proofs.Moments.{chains, widens}
-use Rattle.isp_format.specs.Log.{Transaction, log_bytes}
 use Rattle.isp_format.specs.Ranges.{Contents, page_bytes, page_of}
 use Rattle.isp_frames.specs.Cached.{IsCached, KeepsCached, now}
-use Rattle.isp_frames.specs.Held.{AreBelow, AreClean, IsCleaned, but_dirty, now_over}
+use Rattle.isp_frames.specs.Held.{AreClean, IsCleaned, but_dirty, now_over}
 use Rattle.isp_frames.specs.declared.cache.Cache.{Cache}
-use Rattle.isp_frames.proofs.KeptLaws.{cleaned_below, cleaned_count, kept_apart, was_held}
+use Rattle.isp_frames.proofs.KeptLaws.{cleaned_below, cleaned_count, kept_apart}
 use Rattle.isp_frames.proofs.NowLaws.{AreApart, is_now, page_byte}
-use Rattle.isp_mini.specs.Extents.{extent_cover, largest_body}
-use Rattle.isp_mini.specs.declared.changes.Extent.{Extent}
 use Rattle.isp_page.specs.declared.page.Page.{Page}
 use Rattle.isp_page.specs.declared.page.PageNo.{PageNo}
 use Rattle.isp_pool.specs.Frames.{PoolState, frame_at, frame_in, is_dirty, is_pinned, one_if, page_of as page_in}

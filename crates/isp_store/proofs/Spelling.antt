@@ -1,5 +1,5 @@
 -- The bytes of an extent in the frame of its page are those of the contents now.
-use Rattle.std.proofs.Common.{◌≡◌, ◌-◌, ℕ, List, Option, Some, None, take, drop, refl, sym, ◌∙◌, ap, subst}
+use Rattle.std.proofs.Common.{◌≡◌, ◌-◌, ℕ, List, Option, Some, None, take, drop, refl, sym, ◌∙◌, ap}
 use Rattle.isp_format.specs.Ranges.{Contents, page_of}
 use Rattle.isp_frames.specs.Held.{now_over}
 use Rattle.isp_frames.proofs.NowLaws.{AreApart, now_page, some_is}
@@ -16,9 +16,9 @@ held_piece : (pool : PoolState) (i : ℕ) (extent : Extent) (page : Page) (place
 held_piece pool i extent page placed None apart is there number content = absurd (cc)
 held_piece pool i extent page placed (Some f) apart is there number content =
     let bytes : page_of (now_over pool.frames placed) extent.page.0 ≡ page.bytes =
-        ap (λ (p : PageNo). page_of (now_over pool.frames placed) p.0) (sym (some_is f.page extent.page number))
-        ∙ now_page pool.frames placed apart i f there
-        ∙ ap (λ (p : Page). p.bytes) (some_is f.content page content) in
+    ap (λ (p : PageNo). page_of (now_over pool.frames placed) p.0) (sym (some_is f.page extent.page number))
+    ∙ now_page pool.frames placed apart i f there
+    ∙ ap (λ (p : Page). p.bytes) (some_is f.content page content) in
     ap (λ (bs : List ℕ). take (extent.end - extent.at) (drop extent.at bs)) (sym bytes) ∙ page_piece (now_over pool.frames placed) extent is
 
 pub piece_is : (pool : PoolState) (i : ℕ) (extent : Extent) (page : Page) (placed : Contents) → AreApart pool.frames → IsExtent extent → page_in (frame_at pool i) ≡ Some extent.page → content_of (frame_at pool i) ≡ Some page

@@ -1,5 +1,5 @@
 -- A file that was opened, its log put into its pages, which stand in their places.
-use Rattle.std.specs.Prelude.{◌≡◌, ℕ, ◌≤◌, false, [], length, IsSome}
+use Rattle.std.specs.Prelude.{◌≡◌, ℕ, false, [], length, IsSome}
 use Rattle.isp_disk.specs.declared.world.World.{Ghosts}
 use Rattle.isp_format.specs.Contents.{StandsFor}
 use Rattle.isp_frames.specs.declared.cache.Cache.{Cache}

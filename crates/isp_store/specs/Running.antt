@@ -1,12 +1,10 @@
 -- What holds of a store between two calls while no call of the disk has failed.
-use Rattle.std.specs.Prelude.{◌≡◌, ◌≢◌, ◌⊎◌, ℕ, ◌+◌, ◌<◌, ◌≤◌, Bool, true, false, All, List, [], length, count_by, Option, Some, None, IsSome}
-use Rattle.isp_disk.specs.Moments.{Agree, Quiet, Within}
+use Rattle.std.specs.Prelude.{◌≡◌, ◌≢◌, ◌⊎◌, ℕ, ◌+◌, ◌<◌, ◌≤◌, true, All, List, [], length, count_by, Some, None, IsSome}
+use Rattle.isp_disk.specs.Moments.{Agree, Quiet}
 use Rattle.isp_disk.specs.declared.world.World.{Ghosts}
-use Rattle.isp_format.specs.Contents.{ranges_of}
-use Rattle.isp_format.specs.Control.{IsFanout, IsPages}
 use Rattle.isp_format.specs.Log.{log_bytes}
 use Rattle.isp_format.specs.Ranges.{Contents}
-use Rattle.isp_frames.specs.Held.{AreBelow, AreClean, now_over, pinned_places}
+use Rattle.isp_frames.specs.Held.{AreBelow, AreClean, now_over}
 use Rattle.isp_frames.proofs.NowLaws.{AreApart}
 use Rattle.isp_mini.specs.Extents.{AreExtents, extent_cover, largest_body}
 use Rattle.isp_mini.specs.declared.changes.Extent.{Extent}

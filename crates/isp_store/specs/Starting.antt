@@ -1,8 +1,7 @@
 -- A store that was started: where it stands, and why it was not.
-use Rattle.std.specs.Prelude.{◌≡◌, ◌⊎◌, ℕ, [], length}
+use Rattle.std.specs.Prelude.{◌≡◌, ℕ, [], length}
 use Rattle.isp_disk.specs.declared.world.World.{Ghosts}
 use Rattle.isp_format.specs.Contents.{StandsFor}
-use Rattle.isp_format.specs.Ranges.{Contents}
 use Rattle.isp_opening.specs.Opening.{RefusesWith}
 use Rattle.isp_page.specs.Calls.{LeavesAlone, none_begun}
 use Rattle.isp_page.specs.declared.fault.Fault.{Fault}

@@ -1,4 +1,4 @@
-use Rattle.std.proofs.Common.{◌≡◌, ℕ, List, sym, ◌∙◌, ap, subst}
+use Rattle.std.proofs.Common.{sym, subst}
 use Rattle.std.specs.Prelude.{IsSome}
 use Rattle.isp_stable.specs.File.{flushed}
 use Rattle.isp_store.proofs.Putting.{still_held}

@@ -1,9 +1,7 @@
-use Rattle.std.proofs.Common.{◌≡◌, ◌*◌, ◌+◌, ℕ, List, Some, length, sym, ◌∙◌, ap, subst}
+use Rattle.std.proofs.Common.{◌≡◌, ◌*◌, ◌+◌, ℕ, length, sym, ◌∙◌, ap, subst}
 use Rattle.std.specs.Prelude.{IsSome}
 use Rattle.isp_disk.specs.Moments.{put}
 use Rattle.isp_format.specs.Ranges.{Contents, page_bytes}
-use Rattle.isp_frames.specs.Cached.{IsCached, now}
-use Rattle.isp_mini.specs.Extents.{with_extent}
 use Rattle.isp_pool.specs.Frames.{PoolState, frame_at, page_of as page_in}
 use Rattle.isp_stable.specs.File.{placed}
 use Rattle.isp_store.specs.Running.{AreFrames, IsAlong}
@@ -51,14 +49,14 @@ returns-clause-running g c =
     let pages = c.hold.ensures.shape.pages in
     let here = page_here c.args.p i old.pool mid.pool c.in_ok-frame.ensures.held in
     let frames : AreFrames mid.stable.pages mid.pool extents =
-        subst (λ (n : ℕ). AreFrames n mid.pool extents) (sym pages)
-        (frames_held old.stable.pages c.args.p i old.pool mid.pool extents c.requires.running.frames c.in_ok-frame.ensures.held c.frames.ensures.kept c.in_ok-frame.ensures.below) in
+    subst (λ (n : ℕ). AreFrames n mid.pool extents) (sym pages)
+    (frames_held old.stable.pages c.args.p i old.pool mid.pool extents c.requires.running.frames c.in_ok-frame.ensures.held c.frames.ensures.kept c.in_ok-frame.ensures.below) in
     let along : IsSome (w.printed mid.stable.world) → IsAlong w mid.stable mid.pool extents = λ told.
-        let tells = subst IsSome c.hold.ensures.shape.told told in
-        let before = c.requires.running.along tells in
-        let cached = cached_of w old extents c.requires.running.frames before in
-        let kept = c.in_ok-frame.ensures.keeps tells cached in
-        along_after w old mid extents before kept.0 kept.1 kept.2 kept.3 in
+    let tells = subst IsSome c.hold.ensures.shape.told told in
+    let before = c.requires.running.along tells in
+    let cached = cached_of w old extents c.requires.running.frames before in
+    let kept = c.in_ok-frame.ensures.keeps tells cached in
+    along_after w old mid extents before kept.0 kept.1 kept.2 kept.3 in
     let is : c.write_pinned.new.pool ≡ with_bytes mid.pool i at bytes = c.write_pinned.ensures in
     running_put w mid.stable mid.pool c.write_pinned.new.pool extents c.note.new.self c.args.p i at bytes c.in_ok-frame.ensures.quiet frames along here is c.note.ensures c.requires.some c.requires.inside c.requires.most
     (rw c.hold.ensures.log c.requires.log)

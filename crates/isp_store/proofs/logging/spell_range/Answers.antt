@@ -1,4 +1,4 @@
-use Rattle.std.proofs.Common.{◌≡◌, ◌++◌, ℕ, List, ◌∙◌, ap}
+use Rattle.std.proofs.Common.{◌++◌, ℕ, List, ◌∙◌, ap}
 use Rattle.isp_format.specs.Log.{range_bytes}
 use Rattle.isp_format.specs.Ranges.{Range}
 use Rattle.isp_store.proofs.Spelling.{piece_is}

@@ -1,4 +1,4 @@
-use Rattle.std.proofs.Common.{rules, ◌≡◌, ◌+◌, ◌<◌, ℕ, List, All, ◌∷◌, drop, get_or, length, sym, ◌∙◌, ap, subst}
+use Rattle.std.proofs.Common.{rules, ◌+◌, ◌<◌, List, All, drop, get_or, length, sym, subst}
 use Rattle.std.proofs.lemmas.List.{drop_more}
 use Rattle.std.proofs.lemmas.List.Elements.{All-head}
 use Rattle.isp_mini.specs.declared.changes.Extent.{Extent}

@@ -1,13 +1,11 @@
-use Rattle.std.proofs.Common.{◌≡◌, ℕ, List, Some, sym, ◌∙◌, ap, subst}
-use Rattle.std.specs.Prelude.{IsSome}
+use Rattle.std.proofs.Common.{◌≡◌, sym, ◌∙◌, ap}
 use Rattle.isp_format.specs.Ranges.{Contents, page_of}
 use Rattle.isp_frames.specs.Cached.{now}
-use Rattle.isp_frames.specs.Held.{now_over}
 use Rattle.isp_frames.proofs.HeldLaws.{held_page}
 use Rattle.isp_frames.proofs.NowLaws.{now_page, pool_apart, some_is}
 use Rattle.isp_page.specs.declared.page.Page.{Page}
 use Rattle.isp_page.specs.declared.page.PageNo.{PageNo}
-use Rattle.isp_pool.specs.Frames.{content_of, frame_at}
+use Rattle.isp_pool.specs.Frames.{content_of}
 use Rattle.isp_stable.specs.File.{placed}
 use Rattle.isp_store.proofs.Keeping.{cached_of, running_held}
 use Rattle.isp_store.proofs.Putting.{held_after, holding, stands_by}

@@ -1,5 +1,4 @@
-use Rattle.std.proofs.Common.{◌≡◌, [], sym, ◌∙◌, subst}
-use Rattle.std.specs.Prelude.{IsSome}
+use Rattle.std.proofs.Common.{[]}
 use Rattle.isp_store.proofs.Keeping.{cached_of}
 use Rattle.isp_store.proofs.Putting.{stands_by}
 use Rattle.isp_store.proofs.Settled.{running_cleaned}

@@ -1,9 +1,7 @@
-use Rattle.std.proofs.Common.{◌≡◌, ℕ, List, [], refl, sym, ◌∙◌, ap, subst}
-use Rattle.std.specs.Prelude.{IsSome}
+use Rattle.std.proofs.Common.{List, ◌∙◌, ap}
 use Rattle.isp_format.specs.Log.{Transaction}
-use Rattle.isp_frames.specs.Cached.{now}
 use Rattle.isp_frames.proofs.CacheLaws.{stands_still}
-use Rattle.isp_stable.specs.File.{flushed, placed}
+use Rattle.isp_stable.specs.File.{flushed}
 use Rattle.isp_store.proofs.Putting.{one_file}
 use Rattle.isp_store.proofs.Settled.{now_flushed}
 use Rattle.isp_store.proofs.settling.find_room.Goals as goal

@@ -1,10 +1,9 @@
-use Rattle.std.proofs.Common.{◌≡◌, ℕ, List, [], refl, sym, ◌∙◌, ap, subst}
+use Rattle.std.proofs.Common.{◌≡◌, ℕ, [], refl, sym, ◌∙◌, ap, subst}
 use Rattle.std.specs.Prelude.{IsSome}
 use Rattle.isp_format.specs.Ranges.{Contents}
-use Rattle.isp_frames.specs.Cached.{now}
 use Rattle.isp_frames.specs.Held.{AreClean, now_over}
-use Rattle.isp_stable.specs.File.{IsFile, flushed, placed}
-use Rattle.isp_store.specs.Running.{AreFrames, IsAlong}
+use Rattle.isp_stable.specs.File.{flushed}
+use Rattle.isp_store.specs.Running.{AreFrames}
 use Rattle.isp_store.proofs.Keeping.{cached_of}
 use Rattle.isp_store.proofs.Putting.{stands_by}
 use Rattle.isp_store.proofs.Settled.{IsAllInPlace, all_in_place, along_settled, frames_cleaned, stands_twice}

@@ -1,4 +1,4 @@
-use Rattle.std.proofs.Common.{◌≡◌, ◌⊎◌, inl, inr, ◌<◌, ◌≤◌, ℕ, List, [], Option, length, refl, sym, ◌∙◌, ap, subst, arith}
+use Rattle.std.proofs.Common.{inr, ◌<◌, ◌≤◌, ℕ, List, [], Option, refl, sym, ◌∙◌, subst, arith}
 use Rattle.std.specs.Prelude.{IsSome}
 use Rattle.std.proofs.lemmas.List.Elements.{All-nil}
 use Rattle.isp_disk.specs.Moments.{Image, LeavesOnly}
@@ -25,14 +25,14 @@ returns-in-Ok-clause-recovered g c =
     let done = c.in-Ok.ensures in
     let apart = pool_apart new.pool c.frames.ensures.kept in
     let frames : AreFrames new.stable.pages new.pool [] = record {
-        many = subst (λ (n : ℕ). 64 ≤ n) (sym done.count) c.requires.many;
-        apart = apart;
-        below = done.below;
-        pins = none_count new.pool.frames done.unpinned;
-        pinned = All-nil (IsPinnedIn new.pool);
-        inside = All-nil (λ (extent : Extent). extent.page.0 < new.stable.pages);
-        extents = no_extents;
-      } in
+      many = subst (λ (n : ℕ). 64 ≤ n) (sym done.count) c.requires.many;
+      apart = apart;
+      below = done.below;
+      pins = none_count new.pool.frames done.unpinned;
+      pinned = All-nil (IsPinnedIn new.pool);
+      inside = All-nil (λ (extent : Extent). extent.page.0 < new.stable.pages);
+      extents = no_extents;
+    } in
     record {
       running = record {
         quiet = done.quiet;

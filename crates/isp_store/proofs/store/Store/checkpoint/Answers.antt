@@ -1,14 +1,13 @@
-use Rattle.std.proofs.Common.{rules, ◌≡◌, ◌⊎◌, inl, inr, ⊎_elim, ℕ, List, [], false, refl, sym, ◌∙◌, ap, subst}
+use Rattle.std.proofs.Common.{rules, ◌≡◌, List, [], false, sym, subst}
 use Rattle.std.specs.Prelude.{IsSome}
-use Rattle.isp_format.specs.Ranges.{Contents, page_of}
 use Rattle.isp_page.specs.Calls.{AddsNone, LeavesAlone}
 use Rattle.isp_format.specs.Control.{IsFanout, IsPages}
 use Rattle.isp_mini.specs.declared.changes.Extent.{Extent}
 use Rattle.isp_stable.specs.File.{HasBatches}
 use Rattle.isp_store.specs.Inside.{seen}
-use Rattle.isp_store.specs.Running.{IsAlong, IsRunning}
+use Rattle.isp_store.specs.Running.{IsRunning}
 use Rattle.isp_store.specs.State.{StoreState, contents, may_leave, told}
-use Rattle.isp_store.specs.declared.standing.Standing.TheVariants.{Failed, Sound, Undecided}
+use Rattle.isp_store.specs.declared.standing.Standing.TheVariants.{Failed, Sound}
 use Rattle.isp_store.proofs.Passing.{calm_stops, calm_time, failed_decided, flushed_alone, sound_decided}
 use Rattle.isp_store.proofs.Settled.{now_flushed}
 use Rattle.isp_store.proofs.store.Store.checkpoint.Goals as goal

@@ -1,15 +1,14 @@
 use Rattle.std.proofs.Common.{rules, ◌≡◌, ◌+◌, ◌≤◌, ℕ, List, length, map, sym, ◌∙◌, ap, subst}
 use Rattle.std.specs.Prelude.{IsSome}
-use Rattle.isp_format.specs.Ranges.{Contents, page_of}
 use Rattle.isp_page.specs.Calls.{AddsNone}
 use Rattle.isp_store.specs.Inside.{seen}
-use Rattle.isp_store.specs.State.{StoreState, contents, may_leave, mini, told}
+use Rattle.isp_store.specs.State.{StoreState, may_leave, mini, told}
 use Rattle.isp_store.specs.declared.standing.Standing.TheVariants.{Failed, Sound}
 use Rattle.isp_store.proofs.Passing.{calm_stops, calm_time, failed_decided, sound_decided}
-use Rattle.isp_mini.specs.Extents.{page_number, with_extent}
+use Rattle.isp_mini.specs.Extents.{page_number}
 use Rattle.isp_mini.specs.declared.changes.Extent.{Extent}
 use Rattle.isp_mini.proofs.ExtentLaws.{length_with, pages_with}
-use Rattle.isp_page.specs.Calls.{MiniTransaction, most_changed, with_change, with_page}
+use Rattle.isp_page.specs.Calls.{most_changed, with_change, with_page}
 use Rattle.isp_store.proofs.store.StorePages.change.Goals as goal
 
 pub returns-in-Ok-clause-stops : goal.returns-in-Ok-clause-stops
@@ -55,6 +54,6 @@ returns-in-Ok-clause-mini g c =
     let w = g.W.World in
     let new : StoreState g.row.W.Denot = seen (record c.self.inside { cache = c.change_page.new.cache; changes = c.change_page.new.changes }) in
     let pages : map page_number c.change_page.new.changes ≡ with_page c.args.p.0 (map page_number c.self.inside.changes) =
-        ap (λ (es : List Extent). map page_number es) c.in-Ok.ensures.changes ∙ pages_with c.args.p c.args.at (c.args.at + length c.args.bytes.now) c.self.inside.changes in
+    ap (λ (es : List Extent). map page_number es) c.in-Ok.ensures.changes ∙ pages_with c.args.p c.args.at (c.args.at + length c.args.bytes.now) c.self.inside.changes in
     subst (λ (s : StoreState g.row.W.Denot). mini w new ≡ with_change c.args.p.0 (mini w s)) c.self.view_is
     (λ i. record { is_begun = c.self.inside.is_begun; changed = pages i })

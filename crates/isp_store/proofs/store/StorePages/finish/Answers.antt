@@ -1,14 +1,11 @@
-use Rattle.std.proofs.Common.{rules, ◌≡◌, ◌≢◌, ◌++◌, ◌∷◌, ◌⊎◌, inl, inr, ⊎_elim, ℕ, List, [], false, refl, sym, ◌∙◌, ap, subst}
+use Rattle.std.proofs.Common.{rules, ◌≡◌, ◌≢◌, ◌++◌, ◌∷◌, [], false, refl, sym, subst}
 use Rattle.std.specs.Prelude.{IsSome}
-use Rattle.isp_format.specs.Ranges.{Contents, page_of}
-use Rattle.isp_mini.specs.declared.changes.Extent.{Extent}
 use Rattle.isp_page.specs.Calls.{Adds}
 use Rattle.isp_mini.specs.Extents.{ranges_in}
 use Rattle.isp_stable.specs.File.{HasBatches, IsFile}
 use Rattle.isp_store.specs.Inside.{seen}
-use Rattle.isp_store.specs.Running.{IsAlong, IsRunning}
 use Rattle.isp_store.specs.State.{StoreState, contents, may_leave, told}
-use Rattle.isp_store.specs.declared.standing.Standing.TheVariants.{Failed, Sound, Undecided}
+use Rattle.isp_store.specs.declared.standing.Standing.TheVariants.{Sound, Undecided}
 use Rattle.isp_store.proofs.Passing.{finish_stops, finish_time, finished_can, undecided_can}
 use Rattle.isp_store.proofs.Settled.{now_flushed}
 use Rattle.isp_store.proofs.store.StorePages.finish.Goals as goal

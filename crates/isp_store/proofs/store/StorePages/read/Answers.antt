@@ -1,6 +1,6 @@
-use Rattle.std.proofs.Common.{rules, ◌≡◌, ℕ, List, sym, ◌∙◌, ap, subst}
+use Rattle.std.proofs.Common.{rules, ◌≡◌, subst}
 use Rattle.std.specs.Prelude.{IsSome}
-use Rattle.isp_format.specs.Ranges.{Contents, page_of}
+use Rattle.isp_format.specs.Ranges.{page_of}
 use Rattle.isp_page.specs.Calls.{AddsNone}
 use Rattle.isp_store.specs.Inside.{seen}
 use Rattle.isp_store.specs.State.{StoreState, contents, may_leave, told}

@@ -1,14 +1,6 @@
-use Rattle.std.proofs.Common.{rules, ◌≡◌, ◌⊎◌, inl, inr, ⊎_elim, ℕ, List, [], false, refl, sym, ◌∙◌, ap, subst}
-use Rattle.std.specs.Prelude.{IsSome}
-use Rattle.isp_format.specs.Ranges.{Contents, page_of}
-use Rattle.isp_mini.specs.declared.changes.Extent.{Extent}
-use Rattle.isp_page.specs.Calls.{Passes}
-use Rattle.isp_store.specs.Inside.{seen}
-use Rattle.isp_store.specs.Running.{IsAlong, IsRunning}
-use Rattle.isp_store.specs.State.{StoreState, contents, may_leave, told}
-use Rattle.isp_store.specs.declared.standing.Standing.TheVariants.{Failed, Sound, Undecided}
+use Rattle.std.proofs.Common.{rules, ◌≡◌}
+use Rattle.isp_store.specs.declared.standing.Standing.TheVariants.{Sound}
 use Rattle.isp_store.proofs.Passing.{running_told, tell_time, told_before}
-use Rattle.isp_store.proofs.Settled.{now_flushed}
 use Rattle.isp_store.proofs.store.StorePages.tell.Goals as goal
 
 pub invariant_of-self-2 : goal.invariant_of-self-2
