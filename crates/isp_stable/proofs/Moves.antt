@@ -56,6 +56,10 @@ gate_by_log one other agree isnt is = isnt (agree doublewrite_gate (below log_pl
 pub area_by_log : (one other : Image) → Agree in_log one other → area other ≡ area one
 area_by_log one other agree = λ i place. sym (agree (area_place + place) (above log_place log_bytes (area_place + place) (omega arith))) i
 
+-- the pages stand as they did, and no copy counts
+pub laid_by_log : (old left : Image) → old doublewrite_gate ≢ 1 → Agree in_log old left → laid left ≡ area old
+laid_by_log old left isnt agree = laid_closed left (gate_by_log old left agree isnt) ∙ area_by_log old left agree
+
 -- with one of two logs it stands for the contents of that log
 pub left_by_log : (pages : ℕ) (old : Image) (batches batches_now : List (List Transaction)) (end end_now : ℕ) (left : Image) → IsControl old → pages_in old ≡ pages → old doublewrite_gate ≢ 1 → HasLogOf pages old batches end batches_now end_now left
     → (contents : Contents) × StandsFor left contents × ((contents ≡ puts (ranges_of batches) (area old)) ⊎ (contents ≡ puts (ranges_of batches_now) (area old)))

@@ -1,13 +1,17 @@
 -- A file between two calls: pages in their places, and batches in its log; and what a stop within a call leaves of it.
-use Rattle.std.specs.Prelude.{◌≡◌, ◌≢◌, List}
+use Rattle.std.specs.Prelude.{◌≡◌, ◌≢◌, ◌⊎◌, ℕ, List}
 use Rattle.isp_disk.specs.Moments.{LeavesOnly}
 use Rattle.isp_disk.specs.declared.world.World.{Ghosts}
 use Rattle.isp_format.specs.Contents.{StandsFor, ranges_of}
 use Rattle.isp_format.specs.Control.{IsControl, fanout_in, pages_in}
-use Rattle.isp_format.specs.Doublewrite.{area, doublewrite_gate}
+use Rattle.isp_format.specs.Doublewrite.{area, doublewrite_gate, laid}
 use Rattle.isp_format.specs.Log.{IsLog, Transaction, log_of}
-use Rattle.isp_format.specs.Ranges.{Contents, puts}
+use Rattle.isp_format.specs.Ranges.{Contents, page_of, puts}
 use Rattle.isp_stable.specs.declared.stable.Stable.{Stable}
+
+-- each page of these contents is the page of one of two others
+abbrev pub ArePagesOf : Contents → Contents → Contents → Type 0
+ArePagesOf one other contents = (page : ℕ) → (page_of contents page ≡ page_of one page) ⊎ (page_of contents page ≡ page_of other page)
 
 module _ {W : Type 0} (g : Ghosts W) where
   -- The file keeps the first three page rules, no copy counts, and these are its shape and the end of its log.
@@ -34,6 +38,10 @@ module _ {W : Type 0} (g : Ghosts W) where
   -- each stop since old leaves an image that stands for contents with P, and what was printed
   abbrev pub StandsOnly : W → W → (Contents → Type 0) → Type 0
   StandsOnly old new P = LeavesOnly g.clock g.left_since old new (λ left told. ((contents : Contents) × StandsFor left contents × P contents) × (told ≡ g.printed old))
+
+  -- each stop since old leaves pages that have P, with the copies that count laid over them
+  abbrev pub LaysOnly : W → W → (Contents → Type 0) → Type 0
+  LaysOnly old new P = LeavesOnly g.clock g.left_since old new (λ left told. P (laid left))
 
   -- what no call changes
   pub record KeepsShape (old new : Stable W) : Type 0 where

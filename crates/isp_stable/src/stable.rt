@@ -10,7 +10,7 @@ ghost use Rattle.isp_format.specs.Log.{IsBody, Transaction, log_bytes, log_of, l
 ghost use Rattle.isp_format.specs.Ranges.{Range, cover, page_bytes, page_of, puts};
 ghost use Rattle.isp_redo.specs.Places.{IsAt, IsFurther, LiesInPage, TakesRange, place_of};
 ghost use Rattle.isp_redo.specs.Reading.{OnlyReads};
-ghost use Rattle.isp_stable.specs.File.{HasBatches, IsFile, KeepsShape, StandsOnly, flushed, placed};
+ghost use Rattle.isp_stable.specs.File.{HasBatches, IsFile, KeepsShape, LaysOnly, StandsOnly, flushed, placed};
 
 use isp_disk::{Failed, World};
 use isp_doublewrite::write_batch;
@@ -39,6 +39,8 @@ impl<W: World> Stable<W> {
         ensures page { IsSome (W.printed self.old.world) → OnOk result (into.new.bytes ≡ page_of (placed W.World self.old) p.0) }
         ensures stops { IsSome (W.printed self.old.world) → (file : IsFile W.World self.old)
             → StandsOnly W.World self.old.world self.new.world (λ contents. contents ≡ flushed W.World self.old file.batches) }
+        ensures pages { IsSome (W.printed self.old.world) → IsFile W.World self.old
+            → LaysOnly W.World self.old.world self.new.world (λ contents. contents ≡ placed W.World self.old) }
         ensures same { W.image self.new.world ≡ W.image self.old.world }
         ensures log { self.new.log ≡ self.old.log }
         ensures quiet { Quiet (W.pending self.new.world) }
@@ -65,6 +67,8 @@ impl<W: World> Stable<W> {
         ensures onward { IfOk result (λ found. IsFurther from found) }
         ensures stops { IsSome (W.printed self.old.world) → (file : IsFile W.World self.old)
             → StandsOnly W.World self.old.world self.new.world (λ contents. contents ≡ flushed W.World self.old file.batches) }
+        ensures pages { IsSome (W.printed self.old.world) → IsFile W.World self.old
+            → LaysOnly W.World self.old.world self.new.world (λ contents. contents ≡ placed W.World self.old) }
         ensures same { W.image self.new.world ≡ W.image self.old.world }
         ensures log { self.new.log ≡ self.old.log }
         ensures quiet { Quiet (W.pending self.new.world) }
@@ -89,6 +93,9 @@ impl<W: World> Stable<W> {
         ensures stops { IsSome (W.printed self.old.world) → (file : IsFile W.World self.old)
             → Agree (cover (ranges_of file.batches)) (placed W.World self.old) (puts (map whole_page batch.now) (placed W.World self.old))
             → StandsOnly W.World self.old.world self.new.world (λ contents. contents ≡ flushed W.World self.old file.batches) }
+        ensures pages { IsSome (W.printed self.old.world) → IsFile W.World self.old
+            → LaysOnly W.World self.old.world self.new.world (λ contents.
+            (contents ≡ placed W.World self.old) ⊎ (contents ≡ puts (map whole_page batch.now) (placed W.World self.old))) }
         ensures log { self.new.log ≡ self.old.log }
         ensures log_bytes { IsSome (W.printed self.old.world)
             → OnOk result (SameIn log_place log_bytes (W.image self.old.world) (W.image self.new.world)) }
@@ -113,6 +120,9 @@ impl<W: World> Stable<W> {
             → IsBody self.old.pages (ranges ∷ []) body.now
             → StandsOnly W.World self.old.world self.new.world (λ contents.
             (contents ≡ flushed W.World self.old file.batches) ⊎ (contents ≡ puts ranges (flushed W.World self.old file.batches))) }
+        ensures pages { IsSome (W.printed self.old.world) → IsFile W.World self.old → (ranges : Transaction)
+            → IsBody self.old.pages (ranges ∷ []) body.now
+            → LaysOnly W.World self.old.world self.new.world (λ contents. contents ≡ placed W.World self.old) }
         ensures end { OnOk result (self.new.log.end ≡ self.old.log.end + 5 + length body.now) }
         ensures quiet { OnOk result (Quiet (W.pending self.new.world)) }
         ensures shape { KeepsShape W.World self.old self.new }
@@ -133,6 +143,8 @@ impl<W: World> Stable<W> {
         ensures stops { IsSome (W.printed self.old.world) → (file : IsFile W.World self.old)
             → flushed W.World self.old file.batches ≡ placed W.World self.old
             → StandsOnly W.World self.old.world self.new.world (λ contents. contents ≡ flushed W.World self.old file.batches) }
+        ensures pages { IsSome (W.printed self.old.world) → IsFile W.World self.old
+            → LaysOnly W.World self.old.world self.new.world (λ contents. contents ≡ placed W.World self.old) }
         ensures end { OnOk result (self.new.log.end ≡ 0) }
         ensures quiet { OnOk result (Quiet (W.pending self.new.world)) }
         ensures shape { KeepsShape W.World self.old self.new }

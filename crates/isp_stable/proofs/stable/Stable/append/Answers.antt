@@ -1,7 +1,7 @@
 use Rattle.std.proofs.Common.{◌+◌, [], ◌∷◌, ◌++◌, length}
 use Rattle.isp_disk.proofs.Moments.{widens}
 use Rattle.isp_stable.proofs.Files.{beside, file_of}
-use Rattle.isp_stable.proofs.Moves.{beside_log, left_by_log, put_more}
+use Rattle.isp_stable.proofs.Moves.{beside_log, laid_by_log, left_by_log, put_more}
 use Rattle.isp_stable.proofs.stable.Stable.append.Goals as goal
 
 pub returns-clause-batches : goal.returns-clause-batches
@@ -33,3 +33,17 @@ returns-in_err-append-clause-stops g c = λ tells file ranges body.
           (left_by_log s.pages (w.image s.world) file.batches (file.batches ++ (ranges ∷ []) ∷ []) s.log.end (s.log.end + 5 + length c.args.body.now) left file.control file.pages file.closed has.0),
       has.1,
     ))
+
+pub returns-clause-pages : goal.returns-clause-pages
+returns-clause-pages g c = λ tells file ranges body.
+    let w = g.W.World in
+    let s = c.args.self.now in
+    widens w.clock w.left_since s.world c.append.new.world _ _ (c.append.ensures.moments tells s.pages file.batches (ranges ∷ []) file.log body)
+    (λ left told has. laid_by_log (w.image s.world) left file.closed has.0.others)
+
+pub returns-in_err-append-clause-pages : goal.returns-in_err-append-clause-pages
+returns-in_err-append-clause-pages g c = λ tells file ranges body.
+    let w = g.W.World in
+    let s = c.args.self.now in
+    widens w.clock w.left_since s.world c.append.new.world _ _ (c.append.ensures.moments tells s.pages file.batches (ranges ∷ []) file.log body)
+    (λ left told has. laid_by_log (w.image s.world) left file.closed has.0.others)

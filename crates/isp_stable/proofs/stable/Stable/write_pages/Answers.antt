@@ -56,3 +56,15 @@ pub returns-clause-log_bytes : goal.returns-clause-log_bytes
 returns-clause-log_bytes g c = λ tells.
     let w = g.W.World in
     log_by_batch (map number_of c.args.batch.now) (w.image c.args.self.now.world) (w.image c.write_batch.new.world) (c.in_ok-write_batch.ensures.done tells).others
+
+pub returns-clause-pages : goal.returns-clause-pages
+returns-clause-pages g c = λ tells file.
+    let w = g.W.World in
+    let s = c.args.self.now in
+    widens w.clock w.left_since s.world c.write_batch.new.world _ _ (c.write_batch.ensures.stops tells) (λ left told has. has.whole)
+
+pub returns-in_err-write_batch-clause-pages : goal.returns-in_err-write_batch-clause-pages
+returns-in_err-write_batch-clause-pages g c = λ tells file.
+    let w = g.W.World in
+    let s = c.args.self.now in
+    widens w.clock w.left_since s.world c.write_batch.new.world _ _ (c.write_batch.ensures.stops tells) (λ left told has. has.whole)
