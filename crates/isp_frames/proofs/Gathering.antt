@@ -18,9 +18,11 @@ use Rattle.isp_pool.specs.Frames.{IsPool, PoolState, edited, frame_at, frame_in,
 use Rattle.isp_pool.proofs.StateLaws.{dirty_after, none_dirty}
 use Rattle.isp_frames.proofs.NowLaws.{AreApart, cleaned_clean, edited_is, flagged_now, frame_below, in_place, in_place_now, number_is, pool_apart, set_cases, some_is}
 use Rattle.isp_frames.proofs.KeptLaws.{cleaned_below, cleaned_none, cleaned_one, cleaned_twice, kept_pinned}
+use Rattle.isp_frames.proofs.PageLaws.{pages_in_place, pages_same}
 use Rattle.isp_frames.proofs.PinLaws.{covered_in_place, kept_pin}
 use Rattle.isp_frames.proofs.UseOrder.{later_more, later_none}
 use Rattle.isp_recency.specs.Recent.{last_where}
+use Rattle.isp_stable.specs.File.{ArePagesOf}
 
 abbrev clean_flag : Frame → Frame
 clean_flag f = record f { dirty = false }
@@ -38,7 +40,7 @@ numbered_by (Some f) entry e = record { frame = f; there = refl; same = some_is 
 -- what pages in a batch leave of the contents
 
 pub gathered_none : (frames : List (Option Frame)) (placed : Contents) (region : Region) → AreCovered frames placed region → IsGathered frames frames placed region []
-gathered_none frames placed region c = record { clean = c.clean; contents = refl; agree = λ place out. refl; pins = refl }
+gathered_none frames placed region c = record { clean = c.clean; contents = refl; agree = λ place out. refl; pins = refl; pages = pages_same placed (now_over frames placed) placed refl }
 
 pub gathered_more : (old frames : List (Option Frame)) (placed : Contents) (region : Region) (batch : List (PageNo × Page)) (i : ℕ) (entry : PageNo × Page) → AreApart frames → Some entry ≡ numbered (frame_in frames i) → is_pinned (frame_in frames i) ≡ false
     → AreCovered old placed region → IsGathered old frames placed region batch → IsGathered old (edited frames i (λ f. record f { dirty = false })) placed region (batch ++ entry ∷ [])
@@ -62,6 +64,7 @@ gathered_more old frames placed region batch i entry apart has flag c g =
           ∙ g.contents;
       agree = subst (λ (now : Contents). Agree region placed now) (sym more) (covered_in_place frames region placed before apart i f by.there unpinned covered g.agree);
       pins = ap pinned_places (edited_is frames i f clean_flag by.there) ∙ kept_pin frames i f (clean_flag f) by.there refl refl ∙ g.pins;
+      pages = subst (ArePagesOf placed (now_over old placed)) (sym more) (pages_in_place placed (now_over old placed) before frames i f apart by.there g.contents g.pages);
     }
 
 -- pages that are taken, each once

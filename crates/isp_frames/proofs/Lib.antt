@@ -1,4 +1,5 @@
 pub mod NowLaws
+pub mod PageLaws
 pub mod PinLaws
 pub mod KeptLaws
 pub mod HeldLaws

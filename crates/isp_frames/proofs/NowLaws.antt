@@ -431,7 +431,7 @@ in_place_now frames placed i f e =
     sym (absorbs (held_pages frames) placed (in_place placed f)
     (λ place out. sym (put_outside placed (place_of (whole_frame f)) f.content.bytes place (held_covers frames i f e place out))))
 
-slice_placed : (image : Contents) (at start size : ℕ) (bytes : List ℕ) → start ≡ at → size ≡ length bytes → slice (put image at bytes) start size ≡ bytes
+pub slice_placed : (image : Contents) (at start size : ℕ) (bytes : List ℕ) → start ≡ at → size ≡ length bytes → slice (put image at bytes) start size ≡ bytes
 slice_placed image at start size bytes from long = (λ j. slice (put image at bytes) (from j) (long j)) ∙ slice_put image at bytes
 
 written_page : (placed : Contents) (f g : Frame) → g.page.0 ≡ f.page.0 → g.content.bytes ≡ f.content.bytes → length f.content.bytes ≡ 4096 → g.content.bytes ≡ page_of (in_place placed f) g.page.0

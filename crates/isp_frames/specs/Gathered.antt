@@ -9,6 +9,7 @@ use Rattle.isp_page.specs.declared.page.Page.{Page}
 use Rattle.isp_page.specs.declared.page.PageNo.{PageNo}
 use Rattle.isp_pool.specs.Frames.{PoolState, frame_in, is_dirty}
 use Rattle.isp_pool.specs.declared.frames.Frame.{Frame}
+use Rattle.isp_stable.specs.File.{ArePagesOf}
 
 -- clean frames are as their pages stand in their places, and what unpinned ones change lies in the region
 pub record AreCovered (frames : List (Option Frame)) (placed : Contents) (region : Region) : Type 0 where
@@ -22,6 +23,7 @@ pub record IsGathered (old new : List (Option Frame)) (placed : Contents) (regio
   pub contents : now_over new (puts (map whole_page batch) placed) ≡ now_over old placed
   pub agree : Agree region placed (puts (map whole_page batch) placed)
   pub pins : pinned_places new ≡ pinned_places old
+  pub pages : ArePagesOf placed (now_over old placed) (puts (map whole_page batch) placed)
 
 -- the page is in no dirty frame
 abbrev pub IsCleanPage : List (Option Frame) → ℕ → Type 0

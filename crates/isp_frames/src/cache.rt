@@ -4,10 +4,10 @@ ghost use Rattle.isp_disk.specs.Moments.{Quiet};
 ghost use Rattle.isp_disk.specs.Outside.{HasCause};
 ghost use Rattle.isp_format.proofs.Local.{SameIn};
 ghost use Rattle.isp_format.specs.Log.{log_bytes, log_place};
-ghost use Rattle.isp_frames.specs.Cached.{IsCached, KeepsCached};
+ghost use Rattle.isp_frames.specs.Cached.{IsCached, KeepsCached, now};
 ghost use Rattle.isp_frames.specs.Held.{AreBelow, IsHeldAt, IsRoom, cleaned_at, numbered};
 ghost use Rattle.isp_pool.specs.Frames.{frame_at, is_dirty, is_held, is_pinned, loaded, page_of as page_in};
-ghost use Rattle.isp_stable.specs.File.{KeepsShape, StandsOnly, flushed};
+ghost use Rattle.isp_stable.specs.File.{ArePagesOf, KeepsShape, LaysOnly, StandsOnly, flushed, placed};
 
 use isp_disk::{Failed, World};
 use isp_page::{Page, PageNo};
@@ -42,6 +42,10 @@ impl<W: World> Cache<W> {
         ensures untouched { (i : ℕ) → page_in (frame_at self.old.pool i) ≡ Some p → self.new.stable ≡ self.old.stable }
         ensures stops { IsSome (W.printed self.old.stable.world) → (cached : IsCached W.World self.old)
             → StandsOnly W.World self.old.stable.world self.new.stable.world (λ contents. contents ≡ flushed W.World self.old.stable cached.file.batches) }
+        ensures pages { IsSome (W.printed self.old.stable.world) → IsCached W.World self.old
+            → LaysOnly W.World self.old.stable.world self.new.stable.world (ArePagesOf (placed W.World self.old.stable) (now W.World self.old)) }
+        ensures placed { IsSome (W.printed self.old.stable.world) → IsCached W.World self.old
+            → OnOk result (ArePagesOf (placed W.World self.old.stable) (now W.World self.old) (placed W.World self.new.stable)) }
         ensures below { OnOk result (AreBelow self.old.stable.pages self.new.pool.frames) }
         ensures log { self.new.stable.log ≡ self.old.stable.log }
         ensures log_bytes { IsSome (W.printed self.old.stable.world)
@@ -72,6 +76,10 @@ impl<W: World> Cache<W> {
         ensures pool { IfOk result (λ frame. self.new.pool ≡ cleaned_at self.old.pool frame) }
         ensures stops { IsSome (W.printed self.old.stable.world) → (cached : IsCached W.World self.old)
             → StandsOnly W.World self.old.stable.world self.new.stable.world (λ contents. contents ≡ flushed W.World self.old.stable cached.file.batches) }
+        ensures pages { IsSome (W.printed self.old.stable.world) → IsCached W.World self.old
+            → LaysOnly W.World self.old.stable.world self.new.stable.world (ArePagesOf (placed W.World self.old.stable) (now W.World self.old)) }
+        ensures placed { IsSome (W.printed self.old.stable.world) → IsCached W.World self.old
+            → OnOk result (ArePagesOf (placed W.World self.old.stable) (now W.World self.old) (placed W.World self.new.stable)) }
         ensures log { self.new.stable.log ≡ self.old.stable.log }
         ensures log_bytes { IsSome (W.printed self.old.stable.world)
             → OnOk result (SameIn log_place log_bytes (W.image self.old.stable.world) (W.image self.new.stable.world)) }
@@ -101,6 +109,10 @@ impl<W: World> Cache<W> {
         ensures pool { OnOk result (self.new.pool ≡ cleaned_at self.old.pool frame) }
         ensures stops { IsSome (W.printed self.old.stable.world) → (cached : IsCached W.World self.old)
             → StandsOnly W.World self.old.stable.world self.new.stable.world (λ contents. contents ≡ flushed W.World self.old.stable cached.file.batches) }
+        ensures pages { IsSome (W.printed self.old.stable.world) → IsCached W.World self.old
+            → LaysOnly W.World self.old.stable.world self.new.stable.world (ArePagesOf (placed W.World self.old.stable) (now W.World self.old)) }
+        ensures placed { IsSome (W.printed self.old.stable.world) → IsCached W.World self.old
+            → OnOk result (ArePagesOf (placed W.World self.old.stable) (now W.World self.old) (placed W.World self.new.stable)) }
         ensures log { self.new.stable.log ≡ self.old.stable.log }
         ensures log_bytes { IsSome (W.printed self.old.stable.world)
             → OnOk result (SameIn log_place log_bytes (W.image self.old.stable.world) (W.image self.new.stable.world)) }
@@ -128,6 +140,10 @@ impl<W: World> Cache<W> {
         ensures pool { OnOk result (self.new.pool ≡ loaded self.old.pool frame p self.new.page) }
         ensures stops { IsSome (W.printed self.old.stable.world) → (cached : IsCached W.World self.old)
             → StandsOnly W.World self.old.stable.world self.new.stable.world (λ contents. contents ≡ flushed W.World self.old.stable cached.file.batches) }
+        ensures pages { IsSome (W.printed self.old.stable.world) → IsCached W.World self.old
+            → LaysOnly W.World self.old.stable.world self.new.stable.world (ArePagesOf (placed W.World self.old.stable) (now W.World self.old)) }
+        ensures placed { IsSome (W.printed self.old.stable.world) → IsCached W.World self.old
+            → OnOk result (ArePagesOf (placed W.World self.old.stable) (now W.World self.old) (placed W.World self.new.stable)) }
         ensures log { self.new.stable.log ≡ self.old.stable.log }
         ensures log_bytes { IsSome (W.printed self.old.stable.world)
             → OnOk result (SameIn log_place log_bytes (W.image self.old.stable.world) (W.image self.new.stable.world)) }

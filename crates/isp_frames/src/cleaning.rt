@@ -2,12 +2,12 @@
 ghost use Rattle.std.specs.Prelude.{◌≡◌, ℕ, ◌+◌, ◌<◌, ◌≤◌, true, false, count_by, length, min, vec_capacity, IfOk, IsSome, OnOk, Some};
 ghost use Rattle.isp_disk.specs.Moments.{Quiet};
 ghost use Rattle.isp_disk.specs.Outside.{HasCause};
-ghost use Rattle.isp_frames.specs.Cached.{IsCached, KeepsCached};
+ghost use Rattle.isp_frames.specs.Cached.{IsCached, KeepsCached, now};
 ghost use Rattle.isp_frames.specs.Gathered.{IsTaken};
 ghost use Rattle.isp_frames.specs.Held.{AreBelow, IsCleaned, LeavesLaterUsed};
 ghost use Rattle.isp_pool.specs.Frames.{PoolState, frame_at, is_cleanable, is_dirty, is_held, is_pinned};
 ghost use Rattle.isp_recency.specs.Recent.{last_where};
-ghost use Rattle.isp_stable.specs.File.{KeepsShape, StandsOnly, flushed};
+ghost use Rattle.isp_stable.specs.File.{ArePagesOf, KeepsShape, LaysOnly, StandsOnly, flushed, placed};
 
 use crate::cache::{Cache, numbered_page};
 use isp_disk::{Failed, World};
@@ -34,6 +34,10 @@ impl<W: World> Cache<W> {
         ensures order { OnOk result (LeavesLaterUsed self.old.pool self.new.pool) }
         ensures stops { IsSome (W.printed self.old.stable.world) → (cached : IsCached W.World self.old)
             → StandsOnly W.World self.old.stable.world self.new.stable.world (λ contents. contents ≡ flushed W.World self.old.stable cached.file.batches) }
+        ensures pages { IsSome (W.printed self.old.stable.world) → IsCached W.World self.old
+            → LaysOnly W.World self.old.stable.world self.new.stable.world (ArePagesOf (placed W.World self.old.stable) (now W.World self.old)) }
+        ensures placed { IsSome (W.printed self.old.stable.world) → IsCached W.World self.old
+            → OnOk result (ArePagesOf (placed W.World self.old.stable) (now W.World self.old) (placed W.World self.new.stable)) }
         ensures log { self.new.stable.log ≡ self.old.stable.log }
         ensures room { 64 ≤ vec_capacity self.new.batch }
         ensures quiet { OnOk result (Quiet (W.pending self.new.stable.world)) }
@@ -62,6 +66,10 @@ impl<W: World> Cache<W> {
         ensures cleaned { OnOk result (IsCleaned self.old.pool self.new.pool) }
         ensures stops { IsSome (W.printed self.old.stable.world) → (cached : IsCached W.World self.old)
             → StandsOnly W.World self.old.stable.world self.new.stable.world (λ contents. contents ≡ flushed W.World self.old.stable cached.file.batches) }
+        ensures pages { IsSome (W.printed self.old.stable.world) → IsCached W.World self.old
+            → LaysOnly W.World self.old.stable.world self.new.stable.world (ArePagesOf (placed W.World self.old.stable) (now W.World self.old)) }
+        ensures placed { IsSome (W.printed self.old.stable.world) → IsCached W.World self.old
+            → OnOk result (ArePagesOf (placed W.World self.old.stable) (now W.World self.old) (placed W.World self.new.stable)) }
         ensures log { self.new.stable.log ≡ self.old.stable.log }
         ensures room { 64 ≤ vec_capacity self.new.batch }
         ensures quiet { OnOk result (Quiet (W.pending self.new.stable.world)) }
