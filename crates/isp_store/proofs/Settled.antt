@@ -1,13 +1,15 @@
 -- A running store with no change open: its contents are those that the file stands for, and with all pages clean those of
 -- the pages in their places.
-use Rattle.std.proofs.Common.{◌≡◌, ℕ, zero, suc, ◌+◌, ◌*◌, ◌-◌, ◌≤◌, Bool, true, false, List, [], ◌∷◌, Option, Some, None, refl, sym, ◌∙◌, ap, subst, cond, arith}
+use Rattle.std.proofs.Common.{Bool, List, None, Option, Some, [], ap, arith, cond, false, length, refl, subst, suc, sym, true, zero, ℕ, ◌*◌, ◌+◌, ◌-◌, ◌==◌, ◌∙◌, ◌∷◌, ◌≡◌, ◌≤◌}
 use Rattle.std.specs.Prelude.{IsSome, count_by, slice_index}
 use Rattle.std.proofs.lemmas.List.Elements.{All-nil}
 use Rattle.std.proofs.lemmas.List.Sums.{sum_by-cons}
-use Rattle.isp_disk.specs.Moments.{Quiet}
+use Rattle.isp_disk.specs.Moments.{Image, Agree, During, Elapses, Quiet, no_place}
 use Rattle.isp_disk.specs.declared.world.World.{Ghosts}
-use Rattle.isp_disk.proofs.Moments.{chains, widens}
+use Rattle.isp_disk.proofs.Moments.{chains, goes_on, widens}
 use Rattle.isp_format.specs.Ranges.{Contents, page_bytes, page_of}
+use Rattle.isp_format.specs.Doublewrite.{laid}
+use Rattle.isp_format.proofs.Places.{neither}
 use Rattle.isp_frames.specs.Cached.{IsCached, KeepsCached, now}
 use Rattle.isp_frames.specs.Held.{AreClean, IsCleaned, but_dirty, now_over}
 use Rattle.isp_frames.specs.declared.cache.Cache.{Cache}
@@ -17,10 +19,23 @@ use Rattle.isp_page.specs.declared.page.Page.{Page}
 use Rattle.isp_page.specs.declared.page.PageNo.{PageNo}
 use Rattle.isp_pool.specs.Frames.{PoolState, frame_at, frame_in, is_dirty, is_pinned, one_if, page_of as page_in}
 use Rattle.isp_pool.specs.declared.frames.Frame.{Frame}
-use Rattle.isp_stable.specs.File.{IsFile, KeepsShape, StandsOnly, flushed, placed}
+use Rattle.isp_frames.proofs.PageLaws.{lays_still, pages_same, pages_twice}
+use Rattle.isp_stable.proofs.Moves.{laid_closed}
+use Rattle.isp_stable.specs.File.{ArePagesOf, LaysOnly, IsFile, KeepsShape, StandsOnly, flushed, placed}
 use Rattle.isp_stable.specs.declared.stable.Stable.{Stable}
 use Rattle.isp_store.proofs.Keeping.{along_after, cached_of}
+use Rattle.std.proofs.lemmas.Bool.Decides.{nat_tests}
+use Rattle.std.proofs.lemmas.Bool.{false≢true}
+use Rattle.isp_mini.specs.declared.changes.Extent.{Extent}
 use Rattle.isp_store.specs.Running.{AreFrames, HoldSame, IsAlong, IsPinnedIn, IsRunning}
+
+-- no extent is there where none counts
+pub none_open : (extents : List Extent) → (length extents == 0) ≡ true → extents ≡ []
+none_open [] is = refl
+none_open (extent ∷ extents) is = absurd (false≢true (sym more ∙ is))
+  where
+    more : (length (extent ∷ extents) == 0) ≡ false
+    more = grind (arith, nat_tests)
 
 -- no frame is pinned where none counts as it
 pub none_pinned_by : (frames : List (Option Frame)) → count_by is_pinned frames ≤ 0 → (i : ℕ) → is_pinned (frame_in frames i) ≡ false
@@ -134,3 +149,18 @@ module _ {W : Type 0} (g : Ghosts W) where
         let kept = keeps tells (cached_of g old [] running.frames before) in
         along_after g old new [] before kept.0 kept.1 kept.2 kept.3;
   }
+
+  -- one call behind another, by what it leaves of each page
+  pub lays_behind : (old mid new : W) (one other there its : Contents) → LaysOnly g old mid (ArePagesOf one other) → LaysOnly g mid new (ArePagesOf there its) → ArePagesOf one other there → its ≡ other → LaysOnly g old new (ArePagesOf one other)
+  lays_behind old mid new one other there its first second pages same =
+      chains g.clock g.left_since old mid new _ first
+      (widens g.clock g.left_since mid new _ _ second (λ left told has. pages_twice one other there its (laid left) pages same has))
+
+  -- a print leaves the pages as they stand
+  pub lays_told : (s : Stable W) (world : W) (other : Contents) (line : List ℕ) → IsFile g s → Quiet (g.pending s.world) → ((left : Image) (told : Option (List ℕ)) → g.left_since s.world (g.clock s.world) left told → Agree (g.pending s.world) (g.image s.world) left × (told ≡ g.printed s.world))
+      → Elapses (g.clock s.world) (g.clock world) (g.left_since s.world) (g.left_since world) (During (g.image s.world) (g.pending s.world) no_place (g.printed s.world) line) → LaysOnly g s.world world (ArePagesOf (placed g s) other)
+  lays_told s world other line file quiet only time =
+      goes_on g.clock g.left_since s.world s.world world (λ left told. ArePagesOf (placed g s) other (laid left)) _ (lays_still g s other file quiet only) time
+      (λ left told during.
+      let same : g.image s.world ≡ left = λ i place. during.agree place (neither (g.pending s.world place) false (quiet place) refl) i in
+      pages_same (placed g s) other (laid left) (ap laid (sym same) ∙ laid_closed (g.image s.world) file.closed))

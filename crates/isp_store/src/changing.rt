@@ -8,7 +8,7 @@ ghost use Rattle.isp_frames.specs.Cached.{now};
 ghost use Rattle.isp_mini.specs.Extents.{largest_body, with_extent};
 ghost use Rattle.isp_page.specs.Calls.{most_changed};
 ghost use Rattle.isp_pool.specs.Frames.{changed, frame_at, is_held, page_of as page_in, with_frame};
-ghost use Rattle.isp_stable.specs.File.{IsFile, KeepsShape, StandsOnly, flushed};
+ghost use Rattle.isp_stable.specs.File.{ArePagesOf, IsFile, KeepsShape, LaysOnly, StandsOnly, flushed, placed};
 ghost use Rattle.isp_store.specs.Running.{IsHeldAfter, IsRunning};
 
 use crate::settling::find_room;
@@ -38,6 +38,8 @@ pub(crate) fn put_bytes<W: World>(
         → OnOk result (now W.World cache.new ≡ put (now W.World cache.old) (p.0 * page_bytes + at) bytes.now) }
     ensures held { OnOk result (IsHeldAfter p cache.old.pool cache.new.pool) }
     ensures untouched { (i : ℕ) → page_in (frame_at cache.old.pool i) ≡ Some p → cache.new.stable ≡ cache.old.stable }
+    ensures pages { IsSome (W.printed cache.old.stable.world)
+        → LaysOnly W.World cache.old.stable.world cache.new.stable.world (ArePagesOf (placed W.World cache.old.stable) (now W.World cache.old)) }
     ensures stops { IsSome (W.printed cache.old.stable.world) → (file : IsFile W.World cache.old.stable)
         → StandsOnly W.World cache.old.stable.world cache.new.stable.world (λ contents. contents ≡ flushed W.World cache.old.stable file.batches) }
     ensures room { vec_capacity cache.new.batch ≡ vec_capacity cache.old.batch }
@@ -81,6 +83,8 @@ pub(crate) fn change_page<W: World>(
         → OnOk result (now W.World cache.new ≡ put (now W.World cache.old) (p.0 * page_bytes + at) bytes.now) }
     ensures held { OnOk result (IsHeldAfter p cache.old.pool cache.new.pool) }
     ensures untouched { changes.old ≢ [] → (i : ℕ) → page_in (frame_at cache.old.pool i) ≡ Some p → cache.new.stable ≡ cache.old.stable }
+    ensures pages { IsSome (W.printed cache.old.stable.world)
+        → LaysOnly W.World cache.old.stable.world cache.new.stable.world (ArePagesOf (placed W.World cache.old.stable) (now W.World cache.old)) }
     ensures stops { IsSome (W.printed cache.old.stable.world) → (file : IsFile W.World cache.old.stable)
         → StandsOnly W.World cache.old.stable.world cache.new.stable.world (λ contents. contents ≡ flushed W.World cache.old.stable file.batches) }
     ensures room { 64 ≤ vec_capacity cache.new.batch }

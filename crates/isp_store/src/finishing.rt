@@ -4,7 +4,7 @@ ghost use Rattle.isp_disk.specs.Outside.{HasCause};
 ghost use Rattle.isp_frames.specs.Cached.{now};
 ghost use Rattle.isp_mini.specs.Extents.{ranges_in};
 ghost use Rattle.isp_pool.specs.Frames.{is_dirty};
-ghost use Rattle.isp_stable.specs.File.{HasBatches, IsFile, KeepsShape, StandsOnly, flushed, placed};
+ghost use Rattle.isp_stable.specs.File.{ArePagesOf, HasBatches, IsFile, KeepsShape, LaysOnly, StandsOnly, flushed, placed};
 ghost use Rattle.isp_store.specs.Running.{HoldSame, IsRunning};
 
 use crate::logging::{spell, unpin_all};
@@ -29,6 +29,8 @@ pub(crate) fn log_changes<W: World>(
     ensures held { HoldSame cache.old.pool cache.new.pool }
     ensures count { length cache.new.pool.frames ≡ length cache.old.pool.frames }
     ensures dirty { count_by is_dirty cache.new.pool.frames ≡ count_by is_dirty cache.old.pool.frames }
+    ensures pages { IsSome (W.printed cache.old.stable.world)
+        → LaysOnly W.World cache.old.stable.world cache.new.stable.world (ArePagesOf (placed W.World cache.old.stable) (now W.World cache.old)) }
     ensures stops { IsSome (W.printed cache.old.stable.world) → (file : IsFile W.World cache.old.stable)
         → StandsOnly W.World cache.old.stable.world cache.new.stable.world (λ contents.
         (contents ≡ flushed W.World cache.old.stable file.batches) ⊎ (contents ≡ now W.World cache.old)) }

@@ -5,7 +5,7 @@ ghost use Rattle.isp_format.specs.Ranges.{page_of};
 ghost use Rattle.isp_frames.specs.Cached.{now};
 ghost use Rattle.isp_mini.specs.declared.changes.Extent.{Extent};
 ghost use Rattle.isp_pool.specs.Frames.{frame_at, page_of as page_in};
-ghost use Rattle.isp_stable.specs.File.{IsFile, KeepsShape, StandsOnly, flushed};
+ghost use Rattle.isp_stable.specs.File.{ArePagesOf, IsFile, KeepsShape, LaysOnly, StandsOnly, flushed, placed};
 ghost use Rattle.isp_store.specs.Running.{IsHeldAfter, IsRunning};
 
 use isp_disk::{Failed, World};
@@ -26,6 +26,8 @@ pub(crate) fn read_page<W: World>(
     ensures contents { IsSome (W.printed cache.old.stable.world) → OnOk result (now W.World cache.new ≡ now W.World cache.old) }
     ensures held { OnOk result (IsHeldAfter p cache.old.pool cache.new.pool) }
     ensures untouched { (i : ℕ) → page_in (frame_at cache.old.pool i) ≡ Some p → cache.new.stable ≡ cache.old.stable }
+    ensures pages { IsSome (W.printed cache.old.stable.world)
+        → LaysOnly W.World cache.old.stable.world cache.new.stable.world (ArePagesOf (placed W.World cache.old.stable) (now W.World cache.old)) }
     ensures stops { IsSome (W.printed cache.old.stable.world) → (file : IsFile W.World cache.old.stable)
         → StandsOnly W.World cache.old.stable.world cache.new.stable.world (λ contents. contents ≡ flushed W.World cache.old.stable file.batches) }
     ensures room { vec_capacity cache.new.batch ≡ vec_capacity cache.old.batch }

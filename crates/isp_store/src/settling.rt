@@ -6,7 +6,7 @@ ghost use Rattle.isp_frames.specs.Cached.{now};
 ghost use Rattle.isp_frames.specs.Held.{IsCleaned};
 ghost use Rattle.isp_mini.specs.Extents.{largest_body};
 ghost use Rattle.isp_pool.specs.Frames.{frame_at, is_dirty};
-ghost use Rattle.isp_stable.specs.File.{HasBatches, IsFile, KeepsShape, StandsOnly, flushed, placed};
+ghost use Rattle.isp_stable.specs.File.{ArePagesOf, HasBatches, IsFile, KeepsShape, LaysOnly, StandsOnly, flushed, placed};
 ghost use Rattle.isp_store.specs.Running.{IsRunning};
 
 use isp_disk::{Failed, World};
@@ -25,6 +25,8 @@ pub(crate) fn settle<W: World>(cache: &mut Cache<W>) -> Result<(), Failed>
     ensures end { OnOk result (cache.new.stable.log.end ≡ 0) }
     ensures cleaned { OnOk result (IsCleaned cache.old.pool cache.new.pool) }
     ensures clean { OnOk result ((i : ℕ) → is_dirty (frame_at cache.new.pool i) ≡ false) }
+    ensures pages { IsSome (W.printed cache.old.stable.world)
+        → LaysOnly W.World cache.old.stable.world cache.new.stable.world (ArePagesOf (placed W.World cache.old.stable) (now W.World cache.old)) }
     ensures stops { IsSome (W.printed cache.old.stable.world) → (file : IsFile W.World cache.old.stable)
         → StandsOnly W.World cache.old.stable.world cache.new.stable.world (λ contents. contents ≡ flushed W.World cache.old.stable file.batches) }
     ensures room { 64 ≤ vec_capacity cache.new.batch }
@@ -45,6 +47,8 @@ pub(crate) fn clean_pages<W: World>(cache: &mut Cache<W>) -> Result<u32, Failed>
     ensures running { OnOk result (IsRunning W.World cache.new.stable cache.new.pool []) }
     ensures contents { IsSome (W.printed cache.old.stable.world) → OnOk result (now W.World cache.new ≡ now W.World cache.old) }
     ensures cleaned { OnOk result (IsCleaned cache.old.pool cache.new.pool) }
+    ensures pages { IsSome (W.printed cache.old.stable.world)
+        → LaysOnly W.World cache.old.stable.world cache.new.stable.world (ArePagesOf (placed W.World cache.old.stable) (now W.World cache.old)) }
     ensures stops { IsSome (W.printed cache.old.stable.world) → (file : IsFile W.World cache.old.stable)
         → StandsOnly W.World cache.old.stable.world cache.new.stable.world (λ contents. contents ≡ flushed W.World cache.old.stable file.batches) }
     ensures room { 64 ≤ vec_capacity cache.new.batch }
@@ -63,6 +67,10 @@ pub(crate) fn find_room<W: World>(cache: &mut Cache<W>) -> Result<(), Failed>
     ensures log { OnOk result (cache.new.stable.log.end + 5 + largest_body < log_bytes) }
     ensures contents { IsSome (W.printed cache.old.stable.world) → OnOk result (now W.World cache.new ≡ now W.World cache.old) }
     ensures cleaned { OnOk result (IsCleaned cache.old.pool cache.new.pool) }
+    ensures pages { IsSome (W.printed cache.old.stable.world)
+        → LaysOnly W.World cache.old.stable.world cache.new.stable.world (ArePagesOf (placed W.World cache.old.stable) (now W.World cache.old)) }
+    ensures placed_pages { IsSome (W.printed cache.old.stable.world)
+        → OnOk result (ArePagesOf (placed W.World cache.old.stable) (now W.World cache.old) (placed W.World cache.new.stable)) }
     ensures stops { IsSome (W.printed cache.old.stable.world) → (file : IsFile W.World cache.old.stable)
         → StandsOnly W.World cache.old.stable.world cache.new.stable.world (λ contents. contents ≡ flushed W.World cache.old.stable file.batches) }
     ensures flushed { IsSome (W.printed cache.old.stable.world) → (file : IsFile W.World cache.old.stable) → (later : IsFile W.World cache.new.stable)

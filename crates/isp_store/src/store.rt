@@ -12,9 +12,10 @@ ghost use Rattle.isp_page.specs.Calls.{Adds, AddsNone, FailsBy, LeavesAlone, Pas
 ghost use Rattle.isp_page.specs.declared.fault.Fault.TheVariants as fault;
 ghost use Rattle.isp_page.specs.declared.fault.StoreFault.TheVariants.{Disk, Print};
 ghost use Rattle.isp_pool.specs.Frames.{frame_at, is_dirty, page_of as page_in};
-ghost use Rattle.isp_stable.specs.File.{HasBatches, IsFile, placed};
+ghost use Rattle.isp_stable.specs.File.{ArePagesOf, HasBatches, IsFile, LaysOnly, placed};
 ghost use Rattle.isp_store.specs.Running.{HoldSame, IsHeldAfter};
 ghost use Rattle.isp_store.specs.Starting.{IsFresh, IsStarted, StartRefuses};
+ghost use Rattle.isp_store.specs.declared.standing.Standing.TheVariants.{Sound};
 ghost use Rattle.isp_store.specs.State.{clock, contents, dirty, disk_faults, left_since, may_leave, mini, print_faults, shape, told};
 
 use crate::changing::change_page;
@@ -144,6 +145,8 @@ impl<W: World> Store<W> {
         ensures held { OnOk result (HoldSame self.old.pool self.new.pool) }
         ensures mini { OnOk result (mini W.World self.new ≡ mini W.World self.old) }
         ensures alone { IsSome (told W.World self.old) → OnOk result (LeavesAlone (contents W.World self.new) (may_leave W.World self.new)) }
+        ensures pages { IsSome (told W.World self.old) → self.old.standing ≡ Sound
+            → LaysOnly W.World self.old.stable.world self.new.stable.world (ArePagesOf (placed W.World self.old.stable) (contents W.World self.old)) }
         ensures stops { IsSome (told W.World self.old) → AddsNone (may_leave W.World self.old) (may_leave W.World self.new) }
         ensures time { IsSome (told W.World self.old)
             → Passes (clock W.World) (left_since W.World) (may_leave W.World) (told W.World) [] self.old self.new }
@@ -225,6 +228,8 @@ impl<W: World> Pages for Store<W> {
         ensures page { IsSome (told W.World self.old) → OnOk result (into.new.bytes ≡ page_of (contents W.World self.old) p.0) }
         ensures contents { IsSome (told W.World self.old) → OnOk result (contents W.World self.new ≡ contents W.World self.old) }
         ensures mini { OnOk result (mini W.World self.new ≡ mini W.World self.old) }
+        ensures pages { IsSome (told W.World self.old) → self.old.standing ≡ Sound
+            → LaysOnly W.World self.old.stable.world self.new.stable.world (ArePagesOf (placed W.World self.old.stable) (contents W.World self.old)) }
         ensures stops { IsSome (told W.World self.old) → AddsNone (may_leave W.World self.old) (may_leave W.World self.new) }
         ensures time { IsSome (told W.World self.old) → Passes (clock W.World) (left_since W.World) (may_leave W.World) (told W.World) [] self.old self.new }
         ensures told { told W.World self.new ≡ told W.World self.old }
@@ -256,6 +261,8 @@ impl<W: World> Pages for Store<W> {
         ensures contents { IsSome (told W.World self.old) → OnOk result (contents W.World self.new
             ≡ put (contents W.World self.old) (p.0 * page_bytes + at) bytes.now) }
         ensures mini { OnOk result (mini W.World self.new ≡ with_change p.0 (mini W.World self.old)) }
+        ensures pages { IsSome (told W.World self.old) → self.old.standing ≡ Sound
+            → LaysOnly W.World self.old.stable.world self.new.stable.world (ArePagesOf (placed W.World self.old.stable) (contents W.World self.old)) }
         ensures stops { IsSome (told W.World self.old) → AddsNone (may_leave W.World self.old) (may_leave W.World self.new) }
         ensures time { IsSome (told W.World self.old) → Passes (clock W.World) (left_since W.World) (may_leave W.World) (told W.World) [] self.old self.new }
         ensures told { told W.World self.new ≡ told W.World self.old }
@@ -284,6 +291,8 @@ impl<W: World> Pages for Store<W> {
         ensures contents { IsSome (told W.World self.old) → OnOk result (contents W.World self.new ≡ contents W.World self.old) }
         ensures mini { OnOk result (mini W.World self.new ≡ none_begun) }
         ensures dirty { OnOk result (dirty W.World self.new ≡ dirty W.World self.old) }
+        ensures pages { IsSome (told W.World self.old) → self.old.standing ≡ Sound
+            → LaysOnly W.World self.old.stable.world self.new.stable.world (ArePagesOf (placed W.World self.old.stable) (contents W.World self.old)) }
         ensures stops { IsSome (told W.World self.old) → Adds (contents W.World self.old) (may_leave W.World self.old) (may_leave W.World self.new) }
         ensures time { IsSome (told W.World self.old) → Passes (clock W.World) (left_since W.World) (may_leave W.World) (told W.World) [] self.old self.new }
         ensures told { told W.World self.new ≡ told W.World self.old }
@@ -342,6 +351,8 @@ impl<W: World> Pages for Store<W> {
         ensures dirty { IfOk result (λ cleaned. dirty W.World self.new + cleaned ≡ dirty W.World self.old) }
         ensures contents { IsSome (told W.World self.old) → OnOk result (contents W.World self.new ≡ contents W.World self.old) }
         ensures mini { OnOk result (mini W.World self.new ≡ mini W.World self.old) }
+        ensures pages { IsSome (told W.World self.old) → self.old.standing ≡ Sound
+            → LaysOnly W.World self.old.stable.world self.new.stable.world (ArePagesOf (placed W.World self.old.stable) (contents W.World self.old)) }
         ensures stops { IsSome (told W.World self.old) → AddsNone (may_leave W.World self.old) (may_leave W.World self.new) }
         ensures time { IsSome (told W.World self.old) → Passes (clock W.World) (left_since W.World) (may_leave W.World) (told W.World) [] self.old self.new }
         ensures told { told W.World self.new ≡ told W.World self.old }
@@ -368,6 +379,8 @@ impl<W: World> Pages for Store<W> {
         ensures contents { IsSome (told W.World self.old) → contents W.World self.new ≡ contents W.World self.old }
         ensures mini { mini W.World self.new ≡ mini W.World self.old }
         ensures dirty { dirty W.World self.new ≡ dirty W.World self.old }
+        ensures pages { IsSome (told W.World self.old) → self.old.standing ≡ Sound
+            → LaysOnly W.World self.old.stable.world self.new.stable.world (ArePagesOf (placed W.World self.old.stable) (contents W.World self.old)) }
         ensures stops { IsSome (told W.World self.old) → AddsNone (may_leave W.World self.old) (may_leave W.World self.new) }
         ensures time { IsSome (told W.World self.old) → Passes (clock W.World) (left_since W.World) (may_leave W.World) (told W.World) line.now self.old self.new }
         ensures shape { shape W.World self.new ≡ shape W.World self.old }

@@ -75,3 +75,9 @@ returns-clause-contents g c = λ tells.
     let is : c.write_pinned.new.pool ≡ with_bytes mid.pool i at bytes = c.write_pinned.ensures in
     contents_put w (placed w mid.stable) mid.pool c.write_pinned.new.pool c.args.p i at bytes apart.apart (page_here c.args.p i old.pool mid.pool c.in_ok-frame.ensures.held) is c.requires.inside
     ∙ ap (λ (contents : Contents). put contents (c.args.p.0 * page_bytes + at) bytes) kept.3
+
+pub returns-in_err-frame-clause-pages : goal.returns-in_err-frame-clause-pages
+returns-in_err-frame-clause-pages g c = λ tells. c.hold.ensures.pages tells (cached_of g.W.World c.args.cache.now c.args.changes.now c.requires.running.frames (c.requires.running.along tells))
+
+pub returns-clause-pages : goal.returns-clause-pages
+returns-clause-pages g c = λ tells. c.hold.ensures.pages tells (cached_of g.W.World c.args.cache.now c.args.changes.now c.requires.running.frames (c.requires.running.along tells))

@@ -8,6 +8,7 @@ use Rattle.isp_mini.specs.declared.changes.Extent.{Extent}
 use Rattle.isp_stable.specs.File.{placed}
 use Rattle.isp_store.specs.Running.{IsAlong}
 use Rattle.isp_store.proofs.Logged.{along_logged, fits, spelled, stops_logging}
+use Rattle.isp_frames.proofs.PageLaws.{lays_read}
 use Rattle.isp_store.proofs.finishing.log_changes.Goals as goal
 
 pub append-requires-clause-fits : goal.append-requires-clause-fits
@@ -78,3 +79,29 @@ returns-clause-running g c =
       room = λ some. absurd (some refl);
       along = along_now;
     }
+
+pub returns-in_err-append-clause-pages : goal.returns-in_err-append-clause-pages
+returns-in_err-append-clause-pages g c = λ tells.
+    let w = g.W.World in
+    let old = c.args.cache.now in
+    let extents = c.args.changes.now in
+    let placed_now : Contents = placed w old.stable in
+    let now_is : Contents = now_over old.pool.frames placed_now in
+    let is : c.as_slice.result.now ≡ transaction_bytes (ranges_in now_is extents) =
+    c.as_slice.ensures ∙ c.spell.ensures placed_now ∙ ap (λ (es : List Extent). transaction_bytes (ranges_in now_is es)) c.extents.ensures.value in
+    let file = (c.requires.running.along tells).file in
+    lays_read w old.stable now_is c.append.new.self.world
+    (c.append.ensures.pages tells file (ranges_in now_is extents) (spelled old.stable.pages c.as_slice.result.now now_is old.pool extents c.requires.running.frames is))
+
+pub returns-clause-pages : goal.returns-clause-pages
+returns-clause-pages g c = λ tells.
+    let w = g.W.World in
+    let old = c.args.cache.now in
+    let extents = c.args.changes.now in
+    let placed_now : Contents = placed w old.stable in
+    let now_is : Contents = now_over old.pool.frames placed_now in
+    let is : c.as_slice.result.now ≡ transaction_bytes (ranges_in now_is extents) =
+    c.as_slice.ensures ∙ c.spell.ensures placed_now ∙ ap (λ (es : List Extent). transaction_bytes (ranges_in now_is es)) c.extents.ensures.value in
+    let file = (c.requires.running.along tells).file in
+    lays_read w old.stable now_is c.append.new.self.world
+    (c.append.ensures.pages tells file (ranges_in now_is extents) (spelled old.stable.pages c.as_slice.result.now now_is old.pool extents c.requires.running.frames is))

@@ -51,3 +51,9 @@ returns-clause-page g c = λ tells.
     ∙ sym (now_page new.pool.frames (placed w new.stable) (pool_apart new.pool c.frames.ensures.kept) i f.0 f.1)
     ∙ ap (λ (p : PageNo). page_of (now w new) p.0) f.2
     ∙ ap (λ (contents : Contents). page_of contents c.args.p.0) kept.3
+
+pub returns-in_err-frame-clause-pages : goal.returns-in_err-frame-clause-pages
+returns-in_err-frame-clause-pages g c = λ tells. c.hold.ensures.pages tells (cached_of g.W.World c.args.cache.now c.requires.running.0 c.requires.running.1.frames (c.requires.running.1.along tells))
+
+pub returns-clause-pages : goal.returns-clause-pages
+returns-clause-pages g c = λ tells. c.hold.ensures.pages tells (cached_of g.W.World c.args.cache.now c.requires.running.0 c.requires.running.1.frames (c.requires.running.1.along tells))

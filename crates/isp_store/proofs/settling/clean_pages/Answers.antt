@@ -24,3 +24,9 @@ returns-clause-contents g c = λ tells.
 pub returns-clause-running : goal.returns-clause-running
 returns-clause-running g c =
     running_cleaned g.W.World c.args.cache.now c.clean_some.new.self c.requires.running c.in_ok-cleaned.ensures.cleaned c.in_ok-cleaned.ensures.quiet c.clean_some.ensures.shape c.in_ok-cleaned.ensures.keeps
+
+pub returns-in_err-cleaned-clause-pages : goal.returns-in_err-cleaned-clause-pages
+returns-in_err-cleaned-clause-pages g c = λ tells. c.clean_some.ensures.pages tells (cached_of g.W.World c.args.cache.now [] c.requires.running.frames (c.requires.running.along tells))
+
+pub returns-clause-pages : goal.returns-clause-pages
+returns-clause-pages g c = λ tells. c.clean_some.ensures.pages tells (cached_of g.W.World c.args.cache.now [] c.requires.running.frames (c.requires.running.along tells))

@@ -2,11 +2,13 @@ use Rattle.std.proofs.Common.{◌≡◌, ℕ, [], refl, sym, ◌∙◌, ap, subs
 use Rattle.std.specs.Prelude.{IsSome}
 use Rattle.isp_format.specs.Ranges.{Contents}
 use Rattle.isp_frames.specs.Held.{AreClean, now_over}
-use Rattle.isp_stable.specs.File.{flushed}
+use Rattle.isp_stable.specs.File.{flushed, placed}
 use Rattle.isp_store.specs.Running.{AreFrames}
 use Rattle.isp_store.proofs.Keeping.{cached_of}
 use Rattle.isp_store.proofs.Putting.{stands_by}
-use Rattle.isp_store.proofs.Settled.{IsAllInPlace, all_in_place, along_settled, frames_cleaned, stands_twice}
+use Rattle.isp_store.proofs.Settled.{IsAllInPlace, all_in_place, along_settled, frames_cleaned, lays_behind, stands_twice}
+use Rattle.isp_frames.proofs.PageLaws.{lays_read}
+use Rattle.isp_frames.specs.Cached.{now}
 use Rattle.isp_store.proofs.settling.settle.Goals as goal
 
 pub clean_all-requires-clause-cached : goal.clean_all-requires-clause-cached
@@ -106,3 +108,28 @@ returns-clause-running g c =
           (subst (λ (contents : Contents). AreClean mid.pool.frames contents) (sym place) there.cached.clean)
           (subst (λ (contents : Contents). now_over mid.pool.frames contents ≡ contents) (sym place) there.now_is);
     }
+
+pub returns-in_err-clean_all-clause-pages : goal.returns-in_err-clean_all-clause-pages
+returns-in_err-clean_all-clause-pages g c = λ tells. c.clean_all.ensures.pages tells (cached_of g.W.World c.args.cache.now [] c.requires.running.frames (c.requires.running.along tells))
+
+pub returns-in_err-empty_log-clause-pages : goal.returns-in_err-empty_log-clause-pages
+returns-in_err-empty_log-clause-pages g c = λ tells.
+    let w = g.W.World in
+    let old = c.args.cache.now in
+    let mid = c.clean_all.new.self in
+    let cached = cached_of w old [] c.requires.running.frames (c.requires.running.along tells) in
+    let kept = c.in_ok-clean_all.ensures.keeps tells cached in
+    let told : IsSome (w.printed mid.stable.world) = subst IsSome (sym c.clean_all.ensures.shape.told) tells in
+    lays_behind w old.stable.world mid.stable.world c.empty_log.new.self.world (placed w old.stable) (now w old) (placed w mid.stable) (now w mid)
+    (c.clean_all.ensures.pages tells cached) (lays_read w mid.stable (now w mid) c.empty_log.new.self.world (c.empty_log.ensures.pages told kept.0.file)) (c.in_ok-clean_all.ensures.placed tells cached) kept.3
+
+pub returns-clause-pages : goal.returns-clause-pages
+returns-clause-pages g c = λ tells.
+    let w = g.W.World in
+    let old = c.args.cache.now in
+    let mid = c.clean_all.new.self in
+    let cached = cached_of w old [] c.requires.running.frames (c.requires.running.along tells) in
+    let kept = c.in_ok-clean_all.ensures.keeps tells cached in
+    let told : IsSome (w.printed mid.stable.world) = subst IsSome (sym c.clean_all.ensures.shape.told) tells in
+    lays_behind w old.stable.world mid.stable.world c.empty_log.new.self.world (placed w old.stable) (now w old) (placed w mid.stable) (now w mid)
+    (c.clean_all.ensures.pages tells cached) (lays_read w mid.stable (now w mid) c.empty_log.new.self.world (c.empty_log.ensures.pages told kept.0.file)) (c.in_ok-clean_all.ensures.placed tells cached) kept.3

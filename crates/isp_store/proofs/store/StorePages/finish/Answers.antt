@@ -2,12 +2,13 @@ use Rattle.std.proofs.Common.{rules, ◌≡◌, ◌≢◌, ◌++◌, ◌∷◌, 
 use Rattle.std.specs.Prelude.{IsSome}
 use Rattle.isp_page.specs.Calls.{Adds}
 use Rattle.isp_mini.specs.Extents.{ranges_in}
-use Rattle.isp_stable.specs.File.{HasBatches, IsFile}
+use Rattle.isp_stable.specs.File.{ArePagesOf, HasBatches, IsFile, LaysOnly, placed}
 use Rattle.isp_store.specs.Inside.{seen}
 use Rattle.isp_store.specs.State.{StoreState, contents, may_leave, told}
 use Rattle.isp_store.specs.declared.standing.Standing.TheVariants.{Sound, Undecided}
 use Rattle.isp_store.proofs.Passing.{finish_stops, finish_time, finished_can, undecided_can}
 use Rattle.isp_store.proofs.Settled.{now_flushed}
+use Rattle.isp_frames.proofs.PageLaws.{lays_still}
 use Rattle.isp_store.proofs.store.StorePages.finish.Goals as goal
 
 pub returns-in-Ok-clause-stops : goal.returns-in-Ok-clause-stops
@@ -57,3 +58,11 @@ returns-in-Ok-clause-logged g c =
     let w = g.W.World in
     subst (λ (s : StoreState g.row.W.Denot). IsSome (told w s) → (file : IsFile w s.stable) → s.open_ranges ≢ [] → HasBatches w c.log_changes.new.cache.stable (file.batches ++ (ranges_in (contents w s) s.open_ranges ∷ []) ∷ [])) c.self.view_is
     (λ tells file some. c.in-Ok.ensures.logged tells file)
+
+pub returns-then-is_empty-clause-pages : goal.returns-then-is_empty-clause-pages
+returns-then-is_empty-clause-pages g c =
+    let w = g.W.World in
+    let old : StoreState g.row.W.Denot = seen c.self.inside in
+    subst (λ (s : StoreState g.row.W.Denot). IsSome (told w s) → s.standing ≡ Sound → LaysOnly w s.stable.world old.stable.world (ArePagesOf (placed w s.stable) (contents w s))) c.self.view_is (λ tells sound.
+    let running = c.self.invariant.sound sound in
+    lays_still w old.stable (contents w old) (running.along tells).file running.quiet (λ left said since. g.met.W.World.only_now old.stable.world left said since))
