@@ -1,5 +1,5 @@
 -- Pages that are each the page of one of two contents, as they stood in their places or as they are now, over calls.
-use Rattle.std.proofs.Common.{◌≡◌, inl, inr, ⊎_elim, ◌∙◌, ◌*◌, ◌⊎◌, false, true, List, ℕ, Option, Some, refl, sym, ap, subst, arith, length, map}
+use Rattle.std.proofs.Common.{◌≡◌, inl, inr, ⊎_elim, ◌∙◌, ◌*◌, ◌⊎◌, false, true, List, ℕ, Option, Some, sym, ap, subst, arith, length, map}
 use Rattle.std.proofs.lemmas.Bool.{cases_Bool, cases_eq}
 use Rattle.isp_disk.specs.Moments.{Agree, Image, Quiet}
 use Rattle.isp_disk.specs.declared.world.World.{Ghosts}

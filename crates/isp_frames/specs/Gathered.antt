@@ -17,7 +17,7 @@ pub record AreCovered (frames : List (Option Frame)) (placed : Contents) (region
   pub covered : Agree (either region (pinned_places frames)) placed (now_over frames placed)
 
 -- With the batch put over the pages in their places, clean frames are as those, and the contents now and the pinned pages
--- are as they were. It changes nothing outside the region.
+-- are as they were. It changes nothing outside the region, and each page is as it stood in its place or as it is now.
 pub record IsGathered (old new : List (Option Frame)) (placed : Contents) (region : Region) (batch : List (PageNo × Page)) : Type 0 where
   pub clean : AreClean new (puts (map whole_page batch) placed)
   pub contents : now_over new (puts (map whole_page batch) placed) ≡ now_over old placed
