@@ -1,10 +1,14 @@
 //! Each call once, over a world in memory.
-ghost use Rattle.std.specs.Prelude.{◌<◌, ◌≤◌, length};
+ghost use Rattle.std.specs.Prelude.{◌≡◌, ◌<◌, ◌≤◌, true, IfOk, None, length, map};
+ghost use Rattle.isp_disk.specs.Moments.{no_place};
+ghost use Rattle.isp_doublewrite.specs.Batches.{number_of};
+ghost use Rattle.isp_format.specs.Doublewrite.{AreDistinct};
 
+use crate::list::is_copy_list;
 use crate::{Restored, check_copies, restore, write_batch};
 use isp_disk::{Failed, MemWorld, World};
 use isp_page::{PAGE_BYTES, Page, PageNo};
-use std::alloc::Global;
+use std::alloc::{AllocError, Global};
 use std::test::Fail;
 
 /// The front of the control block of a file of 64 pages: its name, 64, fan-out 4.
@@ -28,6 +32,17 @@ fn with_page(
     Ok((world, done))
 }
 
+/// The numbers of the calls that are no writes.
+fn other_calls(alloc: Global, world: &MemWorld) -> Result<Vec<u64>, AllocError> {
+    let mut others = Vec::new(alloc);
+    for call in 1..=world.calls() {
+        if !world.is_write(call) {
+            others.push(call)?;
+        }
+    }
+    Ok(others)
+}
+
 #[test]
 fn a_batch_of_one_takes_four_syncs(rt: HostRuntime) -> Result<(), Fail> {
     let page = Page {
@@ -38,6 +53,10 @@ fn a_batch_of_one_takes_four_syncs(rt: HostRuntime) -> Result<(), Fail> {
     // The count, a number and a copy, the gate, the page, the gate.
     assert_eq!(rt; world.calls(), 10);
     assert_eq!(rt; world.syncs(), 4);
+    assert_eq!(rt;
+        other_calls(rt.alloc(), &world)?.as_slice(),
+        [4, 6, 8, 10].as_slice()
+    );
     // Page 5 is at 1,314,816 and five pages more.
     for (place, byte) in [
         (1_335_295, 0),
@@ -174,5 +193,277 @@ fn after_the_first_failing_call_a_start_finds_old_or_new(rt: HostRuntime) -> Res
         let found = found_on_page_5(rt.alloc(), world.image())?;
         assert_eq!(rt; found, Some(failing > 5));
     }
+    Ok(())
+}
+
+/// A disk that has 64 pages.
+const WHOLE: u64 = 1_576_960;
+
+/// The place of page 0.
+const AREA: usize = 1_314_816;
+
+/// The byte of page 0 before the batch of 64 pages; page n has n more.
+const OLD: u8 = 100;
+
+/// The byte of page 0 after it; page n has n more.
+const NEW: u8 = 180;
+
+/// A world in memory that counts the bytes it was given to write, and tells none of its bytes: no call asks how many pages
+/// the file has.
+#[derive(Drop)]
+struct Untold {
+    world: MemWorld,
+    written: u64,
+}
+
+impl World for Untold {
+    ghost use Rattle.std.proofs.Common.{rules};
+
+    ghost printed = { λ w. None };
+
+    ghost image = { λ w place. 0 };
+
+    ghost pending = { λ w. no_place };
+
+    ghost clock = { λ w. 0 };
+
+    ghost left_since = { λ w t left told. ⊥ };
+
+    ghost disk_faults = { λ w. w.world.disk_faults };
+
+    ghost print_faults = { λ w. w.world.print_faults };
+
+    ghost counts_now = { λ w t left tells. Prim.search rules };
+
+    ghost only_now = { λ w left told none. absurd none };
+
+    fn read(&mut self, at: u64, into: &mut [u8]) -> Result<(), Failed> {
+        self.world.read(at, into)
+    }
+
+    fn write(&mut self, at: u64, bytes: &[u8]) -> Result<(), Failed> {
+        self.written = u64::saturating_add(self.written, bytes.len() as u64);
+        self.world.write(at, bytes)
+    }
+
+    fn sync(&mut self) -> Result<(), Failed> {
+        self.world.sync()
+    }
+
+    fn print(&mut self, bytes: &[u8]) -> Result<(), Failed> {
+        self.world.print(bytes)
+    }
+}
+
+/// A world with a file of the 64 old pages.
+fn old_pages(alloc: Global) -> Result<Untold, AllocError> {
+    let mut bytes = FRONT.to_vec(alloc)?;
+    bytes.resize(AREA, 0)?;
+    for number in 0..64u8 {
+        let end = AREA + (usize::from(number) + 1) * PAGE_BYTES;
+        bytes.resize(end, OLD + number)?;
+    }
+    if bytes.len() as u64 > WHOLE {
+        return Err(AllocError);
+    }
+    let world = MemWorld::new(alloc, WHOLE, &bytes, &[], 300, 600_000)?;
+    Ok(Untold { world, written: 0 })
+}
+
+/// The 64 new pages, not in their order.
+fn new_pages(alloc: Global) -> Result<Vec<(PageNo, Page)>, AllocError> {
+    let mut batch = Vec::with_capacity(alloc, 64)?;
+    for k in 0..64u8 {
+        let number = u8::wrapping_mul(k, 5) % 64;
+        let page = Page {
+            bytes: [NEW + number; PAGE_BYTES],
+        };
+        batch.push((PageNo(u32::from(number)), page))?;
+    }
+    Ok(batch)
+}
+
+/// The page numbers of a batch.
+fn numbers_of(alloc: Global, batch: &[(PageNo, Page)]) -> Result<Vec<u32>, AllocError>
+    ensures { IfOk result (λ numbers. numbers.items ≡ map number_of batch.now) }
+{
+    batch.iter().map(|entry| entry.0.0).collect(alloc)
+}
+
+/// Whether these are 64 pages, each below 64 and none twice.
+fn are_all_pages(alloc: Global, batch: &[(PageNo, Page)]) -> Result<bool, AllocError>
+    ensures count { IfOk result (λ are. are ≡ true → length batch.now ≡ 64) }
+    ensures distinct { IfOk result (λ are. are ≡ true → AreDistinct (map number_of batch.now)) }
+{
+    let numbers = numbers_of(alloc, batch)?;
+    if numbers.len() != 64 {
+        return Ok(false);
+    }
+    Ok(is_copy_list(64, &numbers, 64))
+}
+
+/// A world in which the 64 new pages were written over the old ones, and whether that came about.
+fn with_new_pages(alloc: Global) -> Result<(Untold, bool), Fail> {
+    let mut untold = old_pages(alloc)?;
+    let batch = new_pages(alloc)?;
+    if !are_all_pages(alloc, &batch)? {
+        return Ok((untold, false));
+    }
+    let done = write_batch(&mut untold, &batch).is_ok();
+    Ok((untold, done))
+}
+
+/// Whether a page has this byte throughout.
+fn is_page_of(image: &[u8], number: u8, byte: u8) -> bool
+    requires { number < 64 }
+{
+    let at = AREA + usize::from(number) * PAGE_BYTES;
+    match image.get(at..at + PAGE_BYTES) {
+        Some(page) => page.iter().all(|other| *other == byte),
+        None => false,
+    }
+}
+
+/// Whether page 0 has this byte throughout, and each page n of the 64 one that is n more.
+fn are_pages_from(image: &[u8], first: u8) -> bool
+    requires { first ≤ 180 }
+{
+    for number in 0..64u8 {
+        if !is_page_of(image, number, first + number) {
+            return false;
+        }
+    }
+    true
+}
+
+/// Whether all 64 pages are new (true) or all old (false); None where some are and some are not, or one is neither.
+fn found(image: &[u8]) -> Option<bool> {
+    if are_pages_from(image, NEW) {
+        return Some(true);
+    }
+    if are_pages_from(image, OLD) {
+        return Some(false);
+    }
+    None
+}
+
+/// What a new start finds on the 64 pages after a stop within a call.
+fn found_after_a_stop(
+    alloc: Global,
+    world: &MemWorld,
+    call: u64,
+    kept: u64,
+    fill: u8,
+) -> Result<Option<bool>, Fail>
+    requires { (0 < call) × (call ≤ length world.now.log.calls) }
+{
+    let image = world.image_at(alloc, call, kept, fill)?;
+    if image.len() as u64 > WHOLE {
+        return Ok(None);
+    }
+    let mut next = MemWorld::new(alloc, WHOLE, &image, &[], 300, 600_000)?;
+    let (kept, restored) = told(&mut next)?;
+    if !kept || restored == Restored::Bad {
+        return Ok(None);
+    }
+    Ok(found(next.image()))
+}
+
+/// The place of the first of these stops within a write that doesn't leave what is told with it, or None. A stop is told by
+/// how many bytes are kept and the byte that the others get.
+fn first_wrong(
+    alloc: Global,
+    wanted: u64,
+    stops: &[(u64, u8, bool)],
+) -> Result<Option<usize>, Fail> {
+    let (untold, done) = with_new_pages(alloc)?;
+    let world = &untold.world;
+    if !done || wanted == 0 || wanted > world.calls() || !world.is_write(wanted) {
+        return Ok(Some(stops.len()));
+    }
+    for (place, (kept, fill, is_new)) in stops.iter().enumerate() {
+        if found_after_a_stop(alloc, world, wanted, *kept, *fill)? != Some(*is_new) {
+            return Ok(Some(place));
+        }
+    }
+    Ok(None)
+}
+
+#[test]
+fn a_batch_of_64_takes_four_syncs(rt: HostRuntime) -> Result<(), Fail> {
+    let untold = old_pages(rt.alloc())?;
+    assert_eq!(rt; found(untold.world.image()), Some(false));
+    let (untold, done) = with_new_pages(rt.alloc())?;
+    assert!(rt; done);
+    // The count, 64 numbers and copies, the gate, 64 pages, the gate.
+    assert_eq!(rt; untold.world.calls(), 199);
+    assert_eq!(rt; untold.world.syncs(), 4);
+    let others = other_calls(rt.alloc(), &untold.world)?;
+    assert_eq!(rt; others.as_slice(), [130, 132, 197, 199].as_slice());
+    assert_eq!(rt; found(untold.world.image()), Some(true));
+    Ok(())
+}
+
+#[test]
+fn each_page_is_written_twice(rt: HostRuntime) -> Result<(), Fail> {
+    let mut one = old_pages(rt.alloc())?;
+    let page = Page {
+        bytes: [7; PAGE_BYTES],
+    };
+    assert!(rt; write_batch(&mut one, &[(PageNo(5), page)]).is_ok());
+    // The count has four bytes and each number too, and the gate is written twice.
+    assert_eq!(rt; one.written, 4 + 4 + 2 * 4_096 + 2);
+    let (all, done) = with_new_pages(rt.alloc())?;
+    assert!(rt; done);
+    assert_eq!(rt; all.written, 4 + 64 * 4 + 64 * 2 * 4_096 + 2);
+    Ok(())
+}
+
+#[test]
+fn a_stop_within_the_count_of_64_leaves_the_old_pages(rt: HostRuntime) -> Result<(), Fail> {
+    let stops = [(0, 1, false), (2, 9, false), (4, 0, false)];
+    assert_eq!(rt; first_wrong(rt.alloc(), 1, &stops)?, None);
+    Ok(())
+}
+
+#[test]
+fn a_stop_within_a_copy_of_64_leaves_the_old_pages(rt: HostRuntime) -> Result<(), Fail> {
+    // The 33rd copy: 135,304 bytes are pending with it.
+    let stops = [
+        (0, 1, false),
+        (4, 9, false),
+        (70_000, 0, false),
+        (133_000, 1, false),
+        (135_304, 9, false),
+    ];
+    assert_eq!(rt; first_wrong(rt.alloc(), 67, &stops)?, None);
+    Ok(())
+}
+
+#[test]
+fn a_stop_within_the_gate_of_64_leaves_all_or_none(rt: HostRuntime) -> Result<(), Fail> {
+    let stops = [(0, 0, false), (0, 9, false), (0, 1, true), (1, 0, true)];
+    assert_eq!(rt; first_wrong(rt.alloc(), 131, &stops)?, None);
+    Ok(())
+}
+
+#[test]
+fn a_stop_within_a_page_of_64_is_mended(rt: HostRuntime) -> Result<(), Fail> {
+    // The 32nd page: 131,072 bytes are pending with it.
+    let stops = [
+        (0, 0, true),
+        (0, 1, true),
+        (70_000, 9, true),
+        (130_000, 1, true),
+        (131_072, 9, true),
+    ];
+    assert_eq!(rt; first_wrong(rt.alloc(), 164, &stops)?, None);
+    Ok(())
+}
+
+#[test]
+fn a_stop_within_the_closing_gate_of_64_leaves_the_new_pages(rt: HostRuntime) -> Result<(), Fail> {
+    let stops = [(0, 0, true), (0, 1, true), (0, 9, true), (1, 9, true)];
+    assert_eq!(rt; first_wrong(rt.alloc(), 198, &stops)?, None);
     Ok(())
 }
