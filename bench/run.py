@@ -4,8 +4,8 @@
 
 usage: bench/run.py [ROUNDS]      (default: 25; the least of each size counts)
 
-Prints seconds, peak memory and, from size to size, the ratio of the seconds. A doubled size is to take at most 2.5
-times as long. Build the program first: ./isp builds it.
+Prints seconds, peak memory and, from size to size, the ratio of the seconds. A doubled script or text is to
+take at most 2.3 times as long, a doubled table at most 2.5 times. Build the program first: ./isp builds it.
 """
 import os
 import subprocess
