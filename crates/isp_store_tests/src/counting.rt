@@ -1,10 +1,9 @@
 //! Calls, syncs and bytes counted by hand.
 
 use crate::acts::{Act, Run, perform};
-use crate::opening::{after, disk_with, made};
+use crate::opening::{after, disk_with, made, writes_behind};
 use isp_disk::MemWorld;
 use isp_page::{Fault, StoreFault};
-use isp_store::Store;
 use std::alloc::{AllocError, Global};
 use std::test::Fail;
 
@@ -26,34 +25,23 @@ const ONE: Act = Act::Put(Run {
     byte: 7,
 });
 
-/// How many of the calls are writes.
-fn writes(world: &MemWorld) -> u64 {
-    let mut count = 0u64;
-    for call in 1..=world.calls() {
-        if world.is_write(call) {
-            count = count.saturating_add(1);
-        }
-    }
-    count
-}
-
 /// The disk after these acts on an empty file, whose calls are counted from its start on.
 fn changed(alloc: Global, acts: &[Act]) -> Result<MemWorld, Fail> {
     let file = made(alloc, 200, 64, 200_000)?;
     after(alloc, disk_with(alloc, file.image())?, acts)
 }
 
-/// How many calls, writes and syncs these acts make, the start among them.
-fn counted(alloc: Global, acts: &[Act]) -> Result<(u64, u64, u64), Fail> {
-    let world = changed(alloc, acts)?;
-    Ok((world.calls(), writes(&world), world.syncs()))
+/// How many calls, writes and syncs were made.
+fn counted(alloc: Global, world: &MemWorld) -> Result<(u64, usize, u64), AllocError> {
+    let writes = writes_behind(alloc, world, 0, 1)?.len();
+    Ok((world.calls(), writes, world.syncs()))
 }
 
 #[test]
 fn calls_of_the_disk(rt: HostRuntime) -> Result<(), Fail> {
     let alloc = rt.alloc();
     let two_pages = [sevens(20, 1, 1), sevens(20, 9, 1), sevens(21, 1, 1)];
-    let cases: [(&[Act], (u64, u64, u64)); 14] = [
+    let cases: [(&[Act], (u64, usize, u64)); 14] = [
         // A sync, the control block, the copies' gate and the log's gate twice.
         (&[], (6, 0, 1)),
         // A page that isn't held is read once; what is held makes no call.
@@ -79,7 +67,8 @@ fn calls_of_the_disk(rt: HostRuntime) -> Result<(), Fail> {
         (&[ONE, Act::CleanSome, Act::Checkpoint], (25, 11, 8)),
     ];
     for (acts, wanted) in &cases {
-        assert_eq!(rt; counted(alloc, *acts)?, *wanted, "{acts:?}");
+        let world = changed(alloc, *acts)?;
+        assert_eq!(rt; counted(alloc, &world)?, *wanted, "{acts:?}");
     }
     Ok(())
 }
@@ -149,14 +138,13 @@ fn seventy(alloc: Global) -> Result<Vec<Act>, AllocError> {
 #[test]
 fn a_full_pool_makes_room(rt: HostRuntime) -> Result<(), Fail> {
     let alloc = rt.alloc();
-    let acts = seventy(alloc)?;
+    let world = changed(alloc, &seventy(alloc)?)?;
     // Each page is read and logged in seven calls; behind the 64th each takes the frame of the one that was used longest
     // ago, which is written in place in ten.
     assert_eq!(rt;
-        counted(alloc, &acts)?,
+        counted(alloc, &world)?,
         (6 + 70 * 7 + 6 * 10, 70 * 4 + 6 * 6, 1 + 70 * 2 + 6 * 4)
     );
-    let world = changed(alloc, &acts)?;
     for page in 20..90usize {
         let in_place = world.image().get(1_314_816 + page * 4_096 + 64).copied();
         assert_eq!(rt;

@@ -1,11 +1,11 @@
 //! Stops within the write that makes a mini-transaction count, and a disk that fails before anything is made.
 
 use crate::acts::{Act, Run, numbers_on};
-use crate::opening::{MADE, Stop, after, disk, made, make, stopped_as};
+use crate::opening::{MADE, Stop, after, disk, made, make, stopped_as, writes_behind};
 use crate::plain::pages_after;
 use isp_disk::{Failed, MemWorld};
 use isp_page::{Fault, StoreFault};
-use std::alloc::Global;
+use std::alloc::{AllocError, Global};
 use std::test::Fail;
 
 /// Page 20 at 64 to 1.
@@ -21,15 +21,10 @@ fn changed(alloc: Global) -> Result<MemWorld, Fail> {
     after(alloc, made(alloc, 64, 64, 200_000)?, &CHANGE)
 }
 
-/// The number of the last call that is a write.
-fn last_write(world: &MemWorld) -> u64 {
-    let mut last = 0;
-    for call in 1..=world.calls() {
-        if world.is_write(call) {
-            last = call;
-        }
-    }
-    last
+/// The number of the last call that is a write, or 0 where none is.
+fn last_write(alloc: Global, world: &MemWorld) -> Result<u64, AllocError> {
+    let writes = writes_behind(alloc, world, 0, 1)?;
+    Ok(writes.last().copied().unwrap_or(0))
 }
 
 /// Whether a stop leaves a file in which that change was done so many times.
@@ -42,7 +37,7 @@ fn has_changes(alloc: Global, world: &MemWorld, stop: Stop, count: usize) -> Res
 fn a_mini_transaction_counts_where_its_gate_is_1(rt: HostRuntime) -> Result<(), Fail> {
     let alloc = rt.alloc();
     let world = changed(alloc)?;
-    let call = last_write(&world);
+    let call = last_write(alloc, &world)?;
     // The one byte that is pending is kept, or reads so; how many mini-transactions there are.
     for (kept, fill, count) in [(1, 0, 1), (1, 9, 1), (0, 1, 1), (0, 0, 0), (0, 9, 0)] {
         let stop = Stop { call, kept, fill };
@@ -55,7 +50,7 @@ fn a_mini_transaction_counts_where_its_gate_is_1(rt: HostRuntime) -> Result<(), 
 fn opened_on_a_torn_gate(alloc: Global) -> Result<MemWorld, Fail> {
     let world = changed(alloc)?;
     let stop = Stop {
-        call: last_write(&world),
+        call: last_write(alloc, &world)?,
         kept: 0,
         fill: 9,
     };
@@ -68,7 +63,7 @@ fn what_was_never_acknowledged_stays_away(rt: HostRuntime) -> Result<(), Fail> {
     let alloc = rt.alloc();
     let opened = opened_on_a_torn_gate(alloc)?;
     // The start made no write, so no stop within it can open the gate over the whole body that stands behind it.
-    assert_eq!(rt; last_write(&opened), 0);
+    assert_eq!(rt; last_write(alloc, &opened)?, 0);
     for call in 1..=opened.calls() {
         let stop = Stop {
             call,

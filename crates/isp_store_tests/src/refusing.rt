@@ -11,11 +11,13 @@ use std::test::Fail;
 /// Bytes at a place of the disk.
 type Piece = (u64, &'static [u8]);
 
-/// An open gate of the copies over none, and a batch of the log with an empty body.
+/// An open gate of the copies, over none.
 const NO_COPIES: Piece = (512, &[1]);
 
+/// A batch of the log with an empty body.
 const EMPTY_BODY: Piece = (266_240, &[1, 0, 0, 0, 0]);
 
+/// A closed made-gate.
 const NOT_MADE: Piece = (63, &[0]);
 
 /// A disk that has these bytes, and these pieces over them.
@@ -57,7 +59,7 @@ fn the_first_rule_that_is_broken_is_named(rt: HostRuntime) -> Result<(), Fail> {
     Ok(())
 }
 
-/// What reads of two pages and a line answer, where the first page isn't held and its read fails, and the world.
+/// What a read that fails answers, and behind it a read of a page that is held and a line; and the world.
 fn after_a_fault(alloc: Global) -> Result<([Result<(), StoreFault>; 3], MemWorld), Fail> {
     let mut world = disk(alloc, 64, &[MADE + 8], 200, 200_000)?;
     make(&mut world)?;
