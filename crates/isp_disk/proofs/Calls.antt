@@ -1,9 +1,9 @@
 -- What upper crates need of calls in a row: a count that rose in one of them rose in all of them, and what was
 -- printed by each of them is joined.
-use Rattle.std.proofs.Common.{◌≡◌, inl, inr, ℕ, ◌+◌, ◌≤◌, List, [], ◌++◌, length, take, Option, Some, None, Result, Ok, subst, refl, sym, ◌∙◌, ap, arith, append_assoc, length-append}
-use Rattle.std.proofs.lemmas.List.{take-append-le, append-nil}
+use Rattle.std.proofs.Common.{◌≡◌, inl, inr, ℕ, ◌+◌, ◌≤◌, List, ◌++◌, length, take, Result, Ok, subst, sym, ◌∙◌, ap, arith, append_assoc, length-append}
+use Rattle.std.proofs.lemmas.List.{take-append-le}
 use Rattle.std.proofs.Math.Seq.{take-append-add}
-use Rattle.isp_disk.specs.Outside.{Rose, HasCause, told_behind, told_ahead, PrintsPart}
+use Rattle.isp_disk.specs.Outside.{Rose, HasCause, PrintsPart}
 
 -- a count that rose stays risen
 pub rose_before : (before mid now : ℕ) → Rose before mid → mid ≤ now → Rose before now
@@ -19,36 +19,21 @@ rose_behind before mid now earlier (inr last) = inr last
 pub cause_joined : {T U E : Type 0} (before mid now : ℕ) (first : T) (result : Result U E) → HasCause {E = E} before mid (Ok first) → HasCause mid now result → HasCause before now result
 cause_joined before mid now first result earlier cause = subst (λ (count : ℕ). HasCause count now result) earlier.steady cause
 
--- two pieces that were printed one behind the other are one piece
-pub told_twice : (before : Option (List ℕ)) (first second : List ℕ) → told_behind (told_behind before first) second ≡ told_behind before (first ++ second)
-told_twice None first second = refl
-told_twice (Some before) first second = ap Some (append_assoc before first second)
-
--- nothing printed
-pub told_nothing : (before : Option (List ℕ)) → told_behind before [] ≡ before
-told_nothing None = refl
-told_nothing (Some before) = ap Some (append-nil before)
-
 -- a part of the first piece is a part of both
-pub part_of_first : (before now : Option (List ℕ)) (first second : List ℕ) → PrintsPart before first now → PrintsPart before (first ++ second) now
+pub part_of_first : (before now first second : List ℕ) → PrintsPart before first now → PrintsPart before (first ++ second) now
 part_of_first before now first second part = record {
   count = part.count;
   within = omega (arith, part.within, length-append first second);
-  printed = part.printed ∙ ap (λ (bytes : List ℕ). told_behind before bytes) (sym (take-append-le part.count first second part.within));
+  printed = part.printed ∙ ap (λ (bytes : List ℕ). before ++ bytes) (sym (take-append-le part.count first second part.within));
 }
 
 -- the first piece and a part of the second are a part of both
-pub part_of_second : (before mid now : Option (List ℕ)) (first second : List ℕ) → mid ≡ told_behind before first → PrintsPart mid second now → PrintsPart before (first ++ second) now
+pub part_of_second : (before mid now first second : List ℕ) → mid ≡ before ++ first → PrintsPart mid second now → PrintsPart before (first ++ second) now
 part_of_second before mid now first second whole part = record {
   count = length first + part.count;
   within = omega (arith, part.within, length-append first second);
   printed = part.printed
-      ∙ ap (λ (told : Option (List ℕ)). told_behind told (take part.count second)) whole
-      ∙ told_twice before first (take part.count second)
-      ∙ ap (λ (bytes : List ℕ). told_behind before bytes) (sym (take-append-add first second part.count));
+      ∙ ap (λ (told : List ℕ). told ++ take part.count second) whole
+      ∙ append_assoc before first (take part.count second)
+      ∙ ap (λ (bytes : List ℕ). before ++ bytes) (sym (take-append-add first second part.count));
 }
-
--- two pieces that were read one behind the other are one piece
-pub read_twice : (first second : List ℕ) (now : Option (List ℕ)) → told_ahead first (told_ahead second now) ≡ told_ahead (first ++ second) now
-read_twice first second None = refl
-read_twice first second (Some rest) = ap Some (sym (append_assoc first second rest))

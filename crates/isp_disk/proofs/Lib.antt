@@ -4,6 +4,7 @@ mod Keeping
 mod Meets
 mod Momentary
 pub mod Moments
+pub mod Phases
 mod Pieces
 mod Replay
 mod Stopping

@@ -1,5 +1,5 @@
 -- The image of a stop, as it is computed, is one that a stop within that call may leave.
-use Rattle.std.proofs.Common.{◌≡◌, inl, inr, ℕ, zero, suc, ◌<◌, ◌≤◌, Bool, true, false, ◌||◌, ◌==◌, if◌then◌else◌, List, [], ◌∷◌, ◌++◌, length, set, take, fold, Option, Some, refl, sym, ◌∙◌, ap, subst, arith}
+use Rattle.std.proofs.Common.{◌≡◌, inl, inr, ℕ, zero, suc, ◌<◌, ◌≤◌, Bool, true, false, ◌||◌, ◌==◌, if◌then◌else◌, List, [], ◌∷◌, ◌++◌, length, set, take, fold, refl, sym, ◌∙◌, ap, subst, arith}
 use Rattle.std.specs.Prelude.{filter, nat_lt}
 use Rattle.std.proofs.lemmas.List.{get_or-set_other}
 use Rattle.std.proofs.lemmas.List.Folds.{list_any-append}
@@ -81,14 +81,14 @@ written_out size first calls made place quiet out =
     (writes_out size (call_at calls made) place out)
 
 -- what a stop within a call leaves is left since each moment before it
-during_since : (held : Held) (calls : List Event) (made t : ℕ) (left : Image) (told : Option (List ℕ)) → made < length calls → t ≤ made → LeftDuring (fold after_event held (take made calls)) (call_at calls made) left told → LeftSince held calls t left told
+during_since : (held : Held) (calls : List Event) (made t : ℕ) (left : Image) (told : List ℕ) → made < length calls → t ≤ made → LeftDuring (fold after_event held (take made calls)) (call_at calls made) left told → LeftSince held calls t left told
 during_since held [] made t left told below le within = absurd (omega (arith, below))
 during_since held (call ∷ calls) zero zero left told below le within = inl within
 during_since held (call ∷ calls) zero (suc t) left told below le within = absurd (omega (arith, le))
 during_since held (call ∷ calls) (suc made) zero left told below le within = inr (during_since (after_event held call) calls made zero left told (omega (arith, below)) (omega arith) within)
 during_since held (call ∷ calls) (suc made) (suc t) left told below le within = during_since (after_event held call) calls made t left told (omega (arith, below)) (omega (arith, le)) within
 
-stopped_during : (size : ℕ) (first : List ℕ) (calls : List Event) (made kept fill : ℕ) (base : List ℕ) → ((place : ℕ) → image_of base place ≡ (held_after first (take made calls)).image place) → LeftDuring (held_after first (take made calls)) (call_at calls made) (image_of (put_writes (torn_behind kept fill (last_writes (written_by size calls made))) base)) (Some (printed_behind first calls made))
+stopped_during : (size : ℕ) (first : List ℕ) (calls : List Event) (made kept fill : ℕ) (base : List ℕ) → ((place : ℕ) → image_of base place ≡ (held_after first (take made calls)).image place) → LeftDuring (held_after first (take made calls)) (call_at calls made) (image_of (put_writes (torn_behind kept fill (last_writes (written_by size calls made))) base)) (printed_behind first calls made)
 stopped_during size first calls made kept fill base same =
     let held = held_after first (take made calls) in
     let last = last_writes (written_by size calls made) in
@@ -96,11 +96,11 @@ stopped_during size first calls made kept fill base same =
       agree = λ place out.
           sym (same place)
           ∙ sym (put_other (torn_behind kept fill last) base place (torn_places kept fill last place ∙ last_places (written_by size calls made) place (written_out size first calls made place (out_of_first (held.pending place) (range_of (call_at calls made) place) out) (out_of_second (held.pending place) (range_of (call_at calls made) place) out))));
-      part = nothing_printed (Some held.printed) held.printed (piece_of (call_at calls made)) refl;
+      part = nothing_printed held.printed held.printed (piece_of (call_at calls made)) refl;
     }
 
 pub stopped_moment : (size : ℕ) (first : List ℕ) (calls : List Event) (made kept fill : ℕ) (base image : List ℕ) → made < length calls → ((place : ℕ) → image_of base place ≡ (held_after first (take made calls)).image place) → image ≡ put_writes (torn_behind kept fill (last_writes (written_by size calls made))) base
-    → (t : ℕ) → t ≤ made → LeftSince (held_first first) calls t (image_of image) (Some (printed_behind first calls made))
+    → (t : ℕ) → t ≤ made → LeftSince (held_first first) calls t (image_of image) (printed_behind first calls made)
 stopped_moment size first calls made kept fill base image below same is t le =
-    let P : List ℕ → Type 0 = λ l. LeftSince (held_first first) calls t (image_of l) (Some (printed_behind first calls made)) in
-    subst P (sym is) (during_since (held_first first) calls made t (image_of (put_writes (torn_behind kept fill (last_writes (written_by size calls made))) base)) (Some (printed_behind first calls made)) below le (stopped_during size first calls made kept fill base same))
+    let P : List ℕ → Type 0 = λ l. LeftSince (held_first first) calls t (image_of l) (printed_behind first calls made) in
+    subst P (sym is) (during_since (held_first first) calls made t (image_of (put_writes (torn_behind kept fill (last_writes (written_by size calls made))) base)) (printed_behind first calls made) below le (stopped_during size first calls made kept fill base same))

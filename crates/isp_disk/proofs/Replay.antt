@@ -1,5 +1,5 @@
 -- One more call of a world in memory: what it holds, and what a stop may leave of it.
-use Rattle.std.proofs.Common.{◌≡◌, ◌⊎◌, inl, inr, ⊎_elim, ℕ, zero, suc, ◌≤◌, Bool, true, false, ◌||◌, List, [], ◌∷◌, ◌++◌, length, fold, Option, Some, refl, sym, ◌∙◌, ap, arith, length-append}
+use Rattle.std.proofs.Common.{◌≡◌, ◌⊎◌, inl, inr, ⊎_elim, ℕ, zero, suc, ◌≤◌, Bool, true, false, ◌||◌, List, [], ◌∷◌, ◌++◌, length, fold, refl, sym, ◌∙◌, ap, arith, length-append}
 use Rattle.std.proofs.lemmas.List.{append-nil, take_all}
 use Rattle.std.proofs.lemmas.List.Sums.{fold-append}
 use Rattle.isp_disk.specs.Outside.{PrintsPart}
@@ -18,18 +18,18 @@ pub out_of_second : (first second : Bool) → (first || second) ≡ false → se
 out_of_second true second out = cc
 out_of_second false second out = out
 
-pub nothing_printed : (told : Option (List ℕ)) (before piece : List ℕ) → told ≡ Some before → PrintsPart (Some before) piece told
-nothing_printed told before piece is = record { count = 0; within = omega arith; printed = is ∙ ap Some (sym (append-nil before)) }
+pub nothing_printed : (told : List ℕ) (before piece : List ℕ) → told ≡ before → PrintsPart before piece told
+nothing_printed told before piece is = record { count = 0; within = omega arith; printed = is ∙ sym (append-nil before) }
 
-all_printed : (told : Option (List ℕ)) (before piece : List ℕ) → told ≡ Some (before ++ piece) → PrintsPart (Some before) piece told
+all_printed : (told : List ℕ) (before piece : List ℕ) → told ≡ before ++ piece → PrintsPart before piece told
 all_printed told before piece is = record {
   count = length piece;
   within = omega arith;
-  printed = is ∙ ap (λ (l : List ℕ). Some (before ++ l)) (sym (take_all (length piece) piece (omega arith)));
+  printed = is ∙ ap (λ (l : List ℕ). before ++ l) (sym (take_all (length piece) piece (omega arith)));
 }
 
 -- what a stop may leave before a call it may leave within it
-pub before_within : (held : Held) (event : Event) (left : Image) (told : Option (List ℕ)) → LeftNow held left told → LeftDuring held event left told
+pub before_within : (held : Held) (event : Event) (left : Image) (told : List ℕ) → LeftNow held left told → LeftDuring held event left told
 before_within held event left told now = record {
   agree = λ place out. now.agree place (out_of_first _ _ out);
   part = nothing_printed told held.printed (piece_of event) now.printed;
@@ -39,7 +39,7 @@ pub put_outside : (image : Image) (at : ℕ) (bytes : List ℕ) (place : ℕ) �
 put_outside image at bytes place out = grind arith
 
 -- what it may leave behind a call it may leave within it
-pub behind_within : (held : Held) (event : Event) (left : Image) (told : Option (List ℕ)) → LeftNow (after_event held event) left told → LeftDuring held event left told
+pub behind_within : (held : Held) (event : Event) (left : Image) (told : List ℕ) → LeftNow (after_event held event) left told → LeftDuring held event left told
 behind_within held (read ok) left told now = before_within held (read ok) left told now
 behind_within held (wrote at bytes true) left told now = record {
   agree = λ place out. sym (put_outside held.image at bytes place (out_of_second _ _ out)) ∙ now.agree place out;
@@ -64,7 +64,7 @@ behind_within held (printed bytes false) left told now = record {
 }
 
 -- nothing else was left since
-since_push : (held : Held) (calls : List Event) (event : Event) (t : ℕ) (left : Image) (told : Option (List ℕ)) → t ≤ length calls → LeftSince held (calls ++ event ∷ []) t left told → LeftSince held calls t left told ⊎ LeftDuring (fold after_event held calls) event left told
+since_push : (held : Held) (calls : List Event) (event : Event) (t : ℕ) (left : Image) (told : List ℕ) → t ≤ length calls → LeftSince held (calls ++ event ∷ []) t left told → LeftSince held calls t left told ⊎ LeftDuring (fold after_event held calls) event left told
 since_push held [] event zero left told le (inl within) = inr within
 since_push held [] event zero left told le (inr now) = inr (behind_within held event left told now)
 since_push held [] event (suc t) left told le since = absurd (omega (arith, le))
@@ -73,7 +73,7 @@ since_push held (call ∷ calls) event zero left told le (inr since) = ⊎_elim 
 since_push held (call ∷ calls) event (suc t) left told le since = since_push (after_event held call) calls event t left told (omega (arith, le)) since
 
 -- and what was left stays among it
-keeps_push : (held : Held) (calls : List Event) (event : Event) (t : ℕ) (left : Image) (told : Option (List ℕ)) → t ≤ length calls → LeftSince held calls t left told → LeftSince held (calls ++ event ∷ []) t left told
+keeps_push : (held : Held) (calls : List Event) (event : Event) (t : ℕ) (left : Image) (told : List ℕ) → t ≤ length calls → LeftSince held calls t left told → LeftSince held (calls ++ event ∷ []) t left told
 keeps_push held [] event zero left told le now = inl (before_within held event left told now)
 keeps_push held [] event (suc t) left told le now = absurd (omega (arith, le))
 keeps_push held (call ∷ calls) event zero left told le (inl within) = inl within
@@ -89,7 +89,7 @@ elapses_push held calls event = record {
 }
 
 -- and not by one that isn't
-pub elapses_not : (held : Held) (calls : List Event) (during : Image → Option (List ℕ) → Type 0) → Elapses (length calls) (length calls) (LeftSince held calls) (LeftSince held calls) during
+pub elapses_not : (held : Held) (calls : List Event) (during : Image → List ℕ → Type 0) → Elapses (length calls) (length calls) (LeftSince held calls) (LeftSince held calls) during
 elapses_not held calls during = record {
   later = omega arith;
   nothing_else = λ t left told le since. inl since;

@@ -1,5 +1,5 @@
 -- The fakes in memory: what they hold between two calls, and what each call makes of it. This project's own.
-use Rattle.std.specs.Prelude.{◌≡◌, ◌⊎◌, ℕ, zero, suc, ◌+◌, ◌-◌, ◌==◌, Bool, not, ◌&&◌, ◌||◌, if◌then◌else◌, nat_lt, nat_le, min, List, [], ◌∷◌, ◌++◌, length, take, drop, replicate, fold, Option, Some}
+use Rattle.std.specs.Prelude.{◌≡◌, ◌⊎◌, ℕ, zero, suc, ◌+◌, ◌-◌, ◌==◌, Bool, not, ◌&&◌, ◌||◌, if◌then◌else◌, nat_lt, nat_le, min, List, [], ◌∷◌, ◌++◌, length, take, drop, replicate, fold}
 use Rattle.std.specs.List.{list_any}
 use Rattle.isp_disk.specs.Moments.{Image, Region, Agree, During, Elapses, Keeps, either, image_of, in_range, no_place, put}
 use Rattle.isp_disk.specs.Outside.{last_count}
@@ -51,16 +51,16 @@ after_event held (synced ok) = record held { pending = if ok then no_place else 
 after_event held (printed bytes ok) = record held { printed = if ok then held.printed ++ bytes else held.printed }
 
 -- what a stop between two calls may leave
-pub record LeftNow (held : Held) (left : Image) (told : Option (List ℕ)) : Type 0 where
+pub record LeftNow (held : Held) (left : Image) (told : List ℕ) : Type 0 where
   pub agree : Agree held.pending held.image left
-  pub printed : told ≡ Some held.printed
+  pub printed : told ≡ held.printed
 
 -- what a stop within a call may leave
-abbrev pub LeftDuring : Held → Event → Image → Option (List ℕ) → Type 0
-LeftDuring held event = During held.image held.pending (range_of event) (Some held.printed) (piece_of event)
+abbrev pub LeftDuring : Held → Event → Image → List ℕ → Type 0
+LeftDuring held event = During held.image held.pending (range_of event) held.printed (piece_of event)
 
 -- what a stop might have left since so many of the calls were made
-abbrev pub LeftSince : Held → List Event → ℕ → Image → Option (List ℕ) → Type 0
+abbrev pub LeftSince : Held → List Event → ℕ → Image → List ℕ → Type 0
 LeftSince held [] t left told = LeftNow held left told
 LeftSince held (event ∷ events) zero left told = LeftDuring held event left told ⊎ LeftSince (after_event held event) events zero left told
 LeftSince held (event ∷ events) (suc t) left told = LeftSince (after_event held event) events t left told
@@ -114,7 +114,7 @@ KeepsDisk old new = Keeps (held_now old).image (held_now old).pending (held_now 
 
 -- time goes on by a call that writes in this range and prints this piece
 abbrev pub Passes : WorldState → WorldState → Region → List ℕ → Type 0
-Passes old new range piece = Elapses (length old.log.calls) (length new.log.calls) (LeftSince (held_first old.first) old.log.calls) (LeftSince (held_first new.first) new.log.calls) (During (held_now old).image (held_now old).pending range (Some (held_now old).printed) piece)
+Passes old new range piece = Elapses (length old.log.calls) (length new.log.calls) (LeftSince (held_first old.first) old.log.calls) (LeftSince (held_first new.first) new.log.calls) (During (held_now old).image (held_now old).pending range (held_now old).printed piece)
 
 -- whether the next number stands in the list of calls that fail
 abbrev pub is_to_fail : WorldState → Bool

@@ -3,7 +3,7 @@
 -- hold anything after a stop, and every other byte is as read. That a call says something of each moment within it is
 -- the crash condition of crash Hoare logic (Chen and others 2015). That a moment is a pair of an image and of what was
 -- printed by then, and the clock that tells earlier moments from later ones, are this project's own.
-use Rattle.std.specs.Prelude.{◌≡◌, ◌⊎◌, ℕ, zero, suc, ◌+◌, ◌-◌, ◌≤◌, Bool, false, ◌&&◌, ◌||◌, if◌then◌else◌, nat_lt, nat_le, List, [], ◌∷◌, length, slice_index, Option}
+use Rattle.std.specs.Prelude.{◌≡◌, ◌⊎◌, ℕ, zero, suc, ◌+◌, ◌-◌, ◌≤◌, Bool, false, ◌&&◌, ◌||◌, if◌then◌else◌, nat_lt, nat_le, List, [], ◌∷◌, length, slice_index}
 use Rattle.isp_disk.specs.Outside.{PrintsPart}
 
 -- a byte at every place
@@ -50,22 +50,22 @@ Quiet pending = (place : ℕ) → pending place ≡ false
 
 -- What a stop within a call may leave: anything where bytes were written since the last good sync, the range of the call
 -- among them, all other bytes as they read before the call; and of what the call prints some bytes from the first on.
-pub record During (image : Image) (pending range : Region) (printed : Option (List ℕ)) (piece : List ℕ) (left : Image) (told : Option (List ℕ)) : Type 0 where
+pub record During (image : Image) (pending range : Region) (printed piece : List ℕ) (left : Image) (told : List ℕ) : Type 0 where
   pub agree : Agree (either pending range) image left
   pub part : PrintsPart printed piece told
 
 -- Time goes on: what was left since t was left since t before the call, or is left by a stop within the call.
-pub record Elapses (before now : ℕ) (past since : ℕ → Image → Option (List ℕ) → Type 0) (during : Image → Option (List ℕ) → Type 0) : Type 0 where
+pub record Elapses (before now : ℕ) (past since : ℕ → Image → List ℕ → Type 0) (during : Image → List ℕ → Type 0) : Type 0 where
   pub later : before ≤ now
-  pub nothing_else : (t : ℕ) (left : Image) (told : Option (List ℕ)) → t ≤ before → since t left told → past t left told ⊎ during left told
-  pub keeps : (t : ℕ) (left : Image) (told : Option (List ℕ)) → t ≤ before → past t left told → since t left told
+  pub nothing_else : (t : ℕ) (left : Image) (told : List ℕ) → t ≤ before → since t left told → past t left told ⊎ during left told
+  pub keeps : (t : ℕ) (left : Image) (told : List ℕ) → t ≤ before → past t left told → since t left told
 
 -- Each stop since old leaves an image and printed bytes that have P.
-pub record LeavesOnly {W : Type 0} (clock : W → ℕ) (left_since : W → ℕ → Image → Option (List ℕ) → Type 0) (old new : W) (P : Image → Option (List ℕ) → Type 0) : Type 0 where
+pub record LeavesOnly {W : Type 0} (clock : W → ℕ) (left_since : W → ℕ → Image → List ℕ → Type 0) (old new : W) (P : Image → List ℕ → Type 0) : Type 0 where
   pub later : clock old ≤ clock new
-  pub each : (left : Image) (told : Option (List ℕ)) → left_since new (clock old) left told → P left told
+  pub each : (left : Image) (told : List ℕ) → left_since new (clock old) left told → P left told
   -- for a run that began earlier
-  pub before : (t : ℕ) (left : Image) (told : Option (List ℕ)) → t ≤ clock old → left_since new t left told → left_since old t left told ⊎ P left told
+  pub before : (t : ℕ) (left : Image) (told : List ℕ) → t ≤ clock old → left_since new t left told → left_since old t left told ⊎ P left told
 
 -- A call of `write`: it changes bytes of its range alone, which may hold anything from now on until a good sync, failed or not.
 pub record Touches (image : Image) (pending : Region) (at size : ℕ) (image_now : Image) (pending_now : Region) : Type 0 where

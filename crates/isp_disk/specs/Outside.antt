@@ -1,6 +1,6 @@
--- What a program may rely on of what lies outside it: a printer that tells what was printed, a source that tells
--- what is left to read, and counts of faults that name the cause of each `Failed`. This project's own words.
-use Rattle.std.specs.Prelude.{◌≡◌, ◌⊎◌, ℕ, ◌-◌, ◌^◌, ◌<◌, ◌≤◌, List, [], ◌++◌, length, take, Option, Some, None, Result, IfSome, IfOk, OnOk, OnErr}
+-- What a program may rely on of what lies outside it: what was printed, what is left to read, and counts of faults that
+-- name the cause of each `Failed`. This project's own words.
+use Rattle.std.specs.Prelude.{◌≡◌, ◌⊎◌, ℕ, ◌-◌, ◌^◌, ◌<◌, ◌≤◌, List, [], ◌++◌, length, take, Result, IfOk, OnOk, OnErr}
 
 -- where every count of faults stops
 abbrev pub last_count : ℕ
@@ -16,34 +16,24 @@ pub record HasCause {T E : Type 0} (before now : ℕ) (result : Result T E) : Ty
   pub steady : OnOk result (now ≡ before)
   pub failed : OnErr result (Rose before now)
 
--- what is told once these bytes stand behind what was told
-abbrev pub told_behind : Option (List ℕ) → List ℕ → Option (List ℕ)
-told_behind None bytes = None
-told_behind (Some before) bytes = Some (before ++ bytes)
-
--- what is told while these bytes still stand ahead of the rest
-abbrev pub told_ahead : List ℕ → Option (List ℕ) → Option (List ℕ)
-told_ahead bytes None = None
-told_ahead bytes (Some rest) = Some (bytes ++ rest)
-
 -- the first bytes of a piece were printed, and no others
-pub record PrintsPart (before : Option (List ℕ)) (piece : List ℕ) (now : Option (List ℕ)) : Type 0 where
+pub record PrintsPart (before piece now : List ℕ) : Type 0 where
   pub count : ℕ
   pub within : count ≤ length piece
-  pub printed : now ≡ told_behind before (take count piece)
+  pub printed : now ≡ before ++ take count piece
 
 -- A call of `print`: the whole piece was printed behind what was before, or at a failure a part of it.
-pub record Prints {T E : Type 0} (before : Option (List ℕ)) (piece : List ℕ) (now : Option (List ℕ)) (result : Result T E) : Type 0 where
-  pub whole : OnOk result (now ≡ told_behind before piece)
+pub record Prints {T E : Type 0} (before piece now : List ℕ) (result : Result T E) : Type 0 where
+  pub whole : OnOk result (now ≡ before ++ piece)
   pub part : OnErr result (PrintsPart before piece now)
 
 -- The first `count` bytes of the piece are the next ones of the source; it gives none only at its end.
-pub record Gives (before : Option (List ℕ)) (count : ℕ) (piece : List ℕ) (now : Option (List ℕ)) : Type 0 where
+pub record Gives (before : List ℕ) (count : ℕ) (piece now : List ℕ) : Type 0 where
   pub fits : count ≤ length piece
-  pub next : before ≡ told_ahead (take count piece) now
-  pub end : count ≡ 0 → IfSome before (λ rest. rest ≡ [])
+  pub next : before ≡ take count piece ++ now
+  pub end : count ≡ 0 → before ≡ []
 
 -- A call of `next`: it gives the next bytes, and a failure leaves all of them to be read.
-pub record Reads {E : Type 0} (before : Option (List ℕ)) (piece : List ℕ) (now : Option (List ℕ)) (result : Result ℕ E) : Type 0 where
+pub record Reads {E : Type 0} (before piece now : List ℕ) (result : Result ℕ E) : Type 0 where
   pub given : IfOk result (λ count. Gives before count piece now)
   pub kept : OnErr result (now ≡ before)

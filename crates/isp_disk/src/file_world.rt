@@ -1,5 +1,5 @@
 //! The world of the running program: its disk is a file, and it prints to standard output.
-ghost use Rattle.std.specs.Prelude.{◌≡◌, None, false};
+ghost use Rattle.std.specs.Prelude.{◌≡◌, [], false};
 ghost use Rattle.isp_disk.specs.Moments.{no_place};
 ghost use Rattle.isp_disk.specs.Outside.{HasCause};
 
@@ -122,7 +122,9 @@ fn told(outcome: io::Result<()>, faults: &mut u64) -> Result<(), Failed>
 impl<R: Files + Print> World for FileWorld<'_, R> {
     ghost use Rattle.std.proofs.Common.{rules};
 
-    ghost printed = { λ world. None };
+    ghost tells = { ⊥ };
+
+    ghost printed = { λ world. [] };
 
     ghost image = { λ world place. 0 };
 
@@ -136,7 +138,7 @@ impl<R: Files + Print> World for FileWorld<'_, R> {
 
     ghost print_faults = { λ world. world.print_faults };
 
-    ghost counts_now = { λ world t left tells. Prim.search rules };
+    ghost counts_now = { λ world t left none. absurd none };
 
     ghost only_now = { λ world left told none. absurd none };
 

@@ -19,6 +19,3 @@ pub use mem_world::MemWorld;
 pub use source::Source;
 pub use stdin_source::StdinSource;
 pub use world::{Failed, World};
-
-#[cfg(test)]
-mod tests;

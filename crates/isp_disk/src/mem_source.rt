@@ -1,5 +1,5 @@
 //! A source in memory, which tells what is left and fails where it is told to.
-ghost use Rattle.std.specs.Prelude.{◌≡◌, ◌<◌, ◌≤◌, ◌++◌, length, take, drop, min, not, IfOk, is_ok};
+ghost use Rattle.std.specs.Prelude.{◌≡◌, ◌<◌, ◌≤◌, ◌++◌, length, take, drop, min, not, IfOk, is_ok, ⊤};
 ghost use Rattle.isp_disk.specs.InMemory.{SourceState, new_source, after_next, filled, is_failing};
 ghost use Rattle.isp_disk.specs.Outside.{HasCause, Reads};
 
@@ -68,9 +68,9 @@ fn put_front(bytes: &[u8], into: &mut [u8]) -> usize
 }
 
 impl Source for MemSource {
-    ghost use Rattle.std.specs.Prelude.{Some};
+    ghost tells = { ⊤ };
 
-    ghost left = { λ source. Some source.left };
+    ghost left = { λ source. source.left };
 
     ghost faults = { λ source. source.faults };
 
@@ -80,7 +80,7 @@ impl Source for MemSource {
         ensures count { IfOk result (λ n. n ≡ min (length into.old) (length self.old.left)) }
         ensures after { self.new ≡ after_next self.old (length into.old) }
         ensures piece { into.new ≡ filled self.old into.old }
-        ensures read { Reads (Some self.old.left) into.new (Some self.new.left) result }
+        ensures read { Reads self.old.left into.new self.new.left result }
         ensures cause { HasCause self.old.faults self.new.faults result }
     {
         let is_to_fail = fails(&self.failing, self.made);

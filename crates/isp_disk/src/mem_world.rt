@@ -1,5 +1,5 @@
 //! A world in memory, which tells its bytes and what it printed, fails where it is told to, and keeps all its calls.
-ghost use Rattle.std.specs.Prelude.{◌≡◌, ◌+◌, ◌-◌, ◌^◌, ◌<◌, ◌≤◌, ◌++◌, ◌&&◌, ◌==◌, not, nat_le, ℕ, Some, count_by, length, replicate, slice_index, [], IsSome, is_ok, IfOk, OnOk, vec_capacity};
+ghost use Rattle.std.specs.Prelude.{◌≡◌, ◌+◌, ◌-◌, ◌^◌, ◌<◌, ◌≤◌, ◌++◌, ◌&&◌, ◌==◌, not, nat_le, ℕ, count_by, length, replicate, slice_index, [], is_ok, IfOk, OnOk, ⊤, vec_capacity};
 ghost use Rattle.std.specs.List.{list_any};
 ghost use Rattle.isp_disk.specs.InMemory.{KeepsDisk, LeftSince, Passes, WorldState, after_print, after_read, after_sync, after_write, held_first, held_now, is_spent, is_to_fail, is_written, new_world};
 ghost use Rattle.isp_disk.specs.Kept.{IsReplayed};
@@ -116,7 +116,7 @@ impl MemWorld {
         // With what `printed_at` gives it is left by a stop at a moment since any that was before the call.
         ensures moment { IfOk result (λ image. (t : ℕ) → t < call →
             LeftSince (held_first self.now.first) self.now.log.calls t (image_of image.items)
-            (Some (printed_behind self.now.first self.now.log.calls (call - 1)))) }
+            (printed_behind self.now.first self.now.log.calls (call - 1))) }
     {
         let made = call as usize - 1;
         let size = self.first.len();
@@ -289,7 +289,9 @@ impl World for MemWorld {
     ghost use Rattle.std.specs.Prelude.{refl};
     ghost use Rattle.isp_disk.specs.Laws.{now_counts, now_only};
 
-    ghost printed = { λ world. Some (held_now world).printed };
+    ghost tells = { ⊤ };
+
+    ghost printed = { λ world. (held_now world).printed };
 
     ghost image = { λ world. (held_now world).image };
 
@@ -304,7 +306,7 @@ impl World for MemWorld {
     ghost print_faults = { λ world. world.print_faults };
 
     ghost counts_now = { λ world t left tells le agree.
-        now_counts (held_first world.first) world.log.calls t left (Some (held_now world).printed) le
+        now_counts (held_first world.first) world.log.calls t left (held_now world).printed le
         record { agree = agree; printed = refl } };
 
     ghost only_now = { λ world left told since.
@@ -314,10 +316,9 @@ impl World for MemWorld {
     fn read(&mut self, at: u64, into: &mut [u8]) -> Result<(), Failed>
         ensures done { is_ok result ≡ (not (is_spent self.old.log 0) && not (is_to_fail self.old)) }
         ensures after { self.new ≡ after_read self.old }
-        ensures bytes { IsSome (Some (held_now self.old).printed)
-            → OnOk result (into.new ≡ slice (held_now self.old).image at (length into.old)) }
+        ensures bytes { OnOk result (into.new ≡ slice (held_now self.old).image at (length into.old)) }
         ensures disk { KeepsDisk self.old self.new }
-        ensures printed { Some (held_now self.new).printed ≡ Some (held_now self.old).printed }
+        ensures printed { (held_now self.new).printed ≡ (held_now self.old).printed }
         ensures time { Passes self.old self.new no_place [] }
         ensures cause { HasCause self.old.disk_faults self.new.disk_faults result }
         ensures printer { self.new.print_faults ≡ self.old.print_faults }
@@ -329,11 +330,10 @@ impl World for MemWorld {
         ensures done { is_ok result
             ≡ (not (is_spent self.old.log (length bytes.now)) && is_written self.old at (length bytes.now)) }
         ensures after { self.new ≡ after_write self.old at bytes.now }
-        ensures written { IsSome (Some (held_now self.old).printed)
-            → OnOk result ((held_now self.new).image ≡ put (held_now self.old).image at bytes.now) }
+        ensures written { OnOk result ((held_now self.new).image ≡ put (held_now self.old).image at bytes.now) }
         ensures disk { Touches (held_now self.old).image (held_now self.old).pending at (length bytes.now)
             (held_now self.new).image (held_now self.new).pending }
-        ensures printed { Some (held_now self.new).printed ≡ Some (held_now self.old).printed }
+        ensures printed { (held_now self.new).printed ≡ (held_now self.old).printed }
         ensures time { Passes self.old self.new (in_range at (length bytes.now)) [] }
         ensures cause { HasCause self.old.disk_faults self.new.disk_faults result }
         ensures printer { self.new.print_faults ≡ self.old.print_faults }
@@ -346,7 +346,7 @@ impl World for MemWorld {
         ensures after { self.new ≡ after_sync self.old }
         ensures durable { OnOk result (Quiet (held_now self.new).pending) }
         ensures disk { KeepsDisk self.old self.new }
-        ensures printed { Some (held_now self.new).printed ≡ Some (held_now self.old).printed }
+        ensures printed { (held_now self.new).printed ≡ (held_now self.old).printed }
         ensures time { Passes self.old self.new no_place [] }
         ensures cause { HasCause self.old.disk_faults self.new.disk_faults result }
         ensures printer { self.new.print_faults ≡ self.old.print_faults }
@@ -358,7 +358,7 @@ impl World for MemWorld {
         ensures done { is_ok result
             ≡ (not (is_spent self.old.log (length bytes.now)) && not (is_to_fail self.old)) }
         ensures after { self.new ≡ after_print self.old bytes.now }
-        ensures printed { Prints (Some (held_now self.old).printed) bytes.now (Some (held_now self.new).printed) result }
+        ensures printed { Prints (held_now self.old).printed bytes.now (held_now self.new).printed result }
         ensures disk { KeepsDisk self.old self.new }
         ensures time { Passes self.old self.new no_place bytes.now }
         ensures cause { HasCause self.old.print_faults self.new.print_faults result }

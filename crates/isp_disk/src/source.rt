@@ -1,13 +1,16 @@
 //! Where the program reads its script from.
-ghost use Rattle.std.specs.Prelude.{◌<◌, List, ℕ, Option, length};
+ghost use Rattle.std.specs.Prelude.{◌<◌, ◌≤◌, IfOk, List, ℕ, length};
 ghost use Rattle.isp_disk.specs.Outside.{HasCause, Reads};
 
 use crate::Failed;
 
 /// Bytes that come in pieces.
 pub trait Source {
-    /// The bytes that were not given yet, where the source tells them.
-    ghost left: { Self → Option (List ℕ) };
+    /// That what is given is said of its bytes: a fact of the type, and not of a value.
+    ghost tells: { Type 0 };
+
+    /// The bytes that were not given yet. They mean nothing where `tells` doesn't hold.
+    ghost left: { Self → List ℕ };
 
     /// How often a call has failed. Only a failed call raises it.
     ghost faults: { Self → ℕ };
@@ -16,6 +19,7 @@ pub trait Source {
     /// them in the piece is left open. A failure leaves them all to be read.
     fn next(&mut self, into: &mut [u8]) -> Result<usize, Failed>
         requires { 0 < length into.old }
-        ensures read { Reads (left self.old) into.new (left self.new) result }
+        ensures fits { IfOk result (λ count. count ≤ length into.new) }
+        ensures read { tells → Reads (left self.old) into.new (left self.new) result }
         ensures cause { HasCause (faults self.old) (faults self.new) result };
 }

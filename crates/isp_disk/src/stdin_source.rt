@@ -1,5 +1,5 @@
 //! The source of the running program: standard input.
-ghost use Rattle.std.specs.Prelude.{◌≡◌, None};
+ghost use Rattle.std.specs.Prelude.{◌≡◌, []};
 
 use crate::world::count_fault;
 use crate::{Failed, Source};
@@ -28,7 +28,9 @@ impl<'a, R: Input> StdinSource<'a, R> {
 }
 
 impl<R: Input> Source for StdinSource<'_, R> {
-    ghost left = { λ source. None };
+    ghost tells = { ⊥ };
+
+    ghost left = { λ source. [] };
 
     ghost faults = { λ source. source.faults };
 

@@ -1,5 +1,5 @@
 //! The world as the program sees it, and the one answer of a call that didn't come about.
-ghost use Rattle.std.specs.Prelude.{◌≡◌, ◌≤◌, [], List, ℕ, Option, length, IsSome, OnOk};
+ghost use Rattle.std.specs.Prelude.{◌≡◌, ◌≤◌, [], List, ℕ, length, OnOk};
 ghost use Rattle.isp_disk.specs.InMemory.{counted};
 ghost use Rattle.isp_disk.specs.Moments.{Image, Region, Agree, During, Elapses, Keeps, Quiet, Touches, in_range, no_place, put, slice};
 ghost use Rattle.isp_disk.specs.Outside.{HasCause, Prints, Rose};
@@ -9,12 +9,15 @@ ghost use Rattle.isp_disk.specs.Outside.{HasCause, Prints, Rose};
 pub struct Failed;
 
 /// The disk that the program writes, and the printer beside it: one trait, so that one moment fixes both what is on
-/// the disk and what was printed by then. A world may tell nothing, and then no clause speaks of its bytes.
+/// the disk and what was printed by then. Of a world that doesn't tell its bytes no clause says what they are.
 pub trait World {
-    /// The bytes that were printed, where the world tells its bytes.
-    ghost printed: { Self → Option (List ℕ) };
+    /// That what is read, written and printed is said of its bytes: a fact of the type, and not of a value.
+    ghost tells: { Type 0 };
 
-    /// The bytes of the disk as they read, 0 past its end. They mean nothing where the world tells none.
+    /// The bytes that were printed. They mean nothing where `tells` doesn't hold.
+    ghost printed: { Self → List ℕ };
+
+    /// The bytes of the disk as they read, 0 past its end. They mean nothing where `tells` doesn't hold.
     ghost image: { Self → Image };
 
     /// Where bytes were written since the last good sync.
@@ -25,7 +28,7 @@ pub trait World {
 
     /// What a stop since that time might have left, within a call or between two: the bytes of the disk and what was
     /// printed by then.
-    ghost left_since: { Self → ℕ → Image → Option (List ℕ) → Type 0 };
+    ghost left_since: { Self → ℕ → Image → List ℕ → Type 0 };
 
     /// How often a call of the disk has failed. Only a failed call of the disk raises it.
     ghost disk_faults: { Self → ℕ };
@@ -35,8 +38,7 @@ pub trait World {
 
     /// Fills the piece with the bytes from `at` on, 0 past the end. At a failure the piece may hold anything.
     fn read(&mut self, at: u64, into: &mut [u8]) -> Result<(), Failed>
-        ensures bytes { IsSome (printed self.old)
-            → OnOk result (into.new ≡ slice (image self.old) at (length into.old)) }
+        ensures bytes { tells → OnOk result (into.new ≡ slice (image self.old) at (length into.old)) }
         ensures disk { Keeps (image self.old) (pending self.old) (image self.new) (pending self.new) }
         ensures printed { printed self.new ≡ printed self.old }
         ensures time { Elapses (clock self.old) (clock self.new) (left_since self.old) (left_since self.new)
@@ -46,8 +48,7 @@ pub trait World {
 
     /// Writes these bytes from `at` on. Until a good sync a stop may leave anything there, also where the call fails.
     fn write(&mut self, at: u64, bytes: &[u8]) -> Result<(), Failed>
-        ensures written { IsSome (printed self.old)
-            → OnOk result (image self.new ≡ put (image self.old) at bytes.now) }
+        ensures written { tells → OnOk result (image self.new ≡ put (image self.old) at bytes.now) }
         ensures disk { Touches (image self.old) (pending self.old) at (length bytes.now)
             (image self.new) (pending self.new) }
         ensures printed { printed self.new ≡ printed self.old }
@@ -69,7 +70,7 @@ pub trait World {
     /// Prints these bytes behind those from before. At a failure a part of them was printed, from their first
     /// byte on.
     fn print(&mut self, bytes: &[u8]) -> Result<(), Failed>
-        ensures printed { Prints (printed self.old) bytes.now (printed self.new) result }
+        ensures printed { tells → Prints (printed self.old) bytes.now (printed self.new) result }
         ensures disk { Keeps (image self.old) (pending self.old) (image self.new) (pending self.new) }
         ensures time { Elapses (clock self.old) (clock self.new) (left_since self.old) (left_since self.new)
             (During (image self.old) (pending self.old) no_place (printed self.old) bytes.now) }
@@ -77,11 +78,11 @@ pub trait World {
         ensures disk_count { disk_faults self.new ≡ disk_faults self.old };
 
     /// What a stop now may leave is left since any earlier time.
-    ghost counts_now: { (world : Self) (t : ℕ) (left : Image) → IsSome (printed world) → t ≤ clock world
+    ghost counts_now: { (world : Self) (t : ℕ) (left : Image) → tells → t ≤ clock world
         → Agree (pending world) (image world) left → left_since world t left (printed world) };
 
     /// Since now nothing else is left.
-    ghost only_now: { (world : Self) (left : Image) (told : Option (List ℕ))
+    ghost only_now: { (world : Self) (left : Image) (told : List ℕ)
         → left_since world (clock world) left told
         → Agree (pending world) (image world) left × (told ≡ printed world) };
 }

@@ -24,6 +24,7 @@ slice_byte image at (suc size) (suc k) less =
 
 -- a number in a page is the number in the contents
 pub number_in_page : (size : ℕ) (contents : Contents) (page at : ℕ) → at + size ≤ page_bytes → number_in size (page_of contents page) at ≡ number_at size contents (page * page_bytes + at)
+unfolding page_of
 number_in_page size contents page at fits =
     ap (big_number size) (slice_moved (image_of (page_of contents page)) contents at (page * page_bytes + at) size (λ k less.
     let moved : page * page_bytes + (at + k) ≡ page * page_bytes + at + k = omega arith in
@@ -109,17 +110,33 @@ header_back bytes old h fits is =
 
 -- worked: page 1 of an empty file is a directory of undo chains with its own number, page 15 is of the catalogue
 worked : header_of (page_of empty_contents 1) ≡ first_header 1
-unfolding empty_contents
+unfolding empty_contents page_of
 worked = refl
 
 worked_last : header_of (page_of empty_contents 15) ≡ first_header 15
-unfolding empty_contents
+unfolding empty_contents page_of
 worked_last = refl
 
 worked_fresh : number_in 4 (page_of empty_contents 0) 72 ≡ 16
-unfolding empty_contents
+unfolding empty_contents page_of
 worked_fresh = refl
 
 worked_free : header_of (page_of empty_contents 16) ≡ record { kind = 0; level = 0; count = 0; owner = 0; next = 0; prev = 0; ssn = 0; own = 0; used = 0 }
-unfolding empty_contents
+unfolding empty_contents page_of
 worked_free = refl
+
+-- the header reads the first 32 bytes alone
+pub header_same : (one other : List ℕ) → ((place : ℕ) → place < 32 → image_of one place ≡ image_of other place) → header_of one ≡ header_of other
+header_same one other same =
+    let number : (size at : ℕ) → at + size ≤ 32 → number_in size one at ≡ number_in size other at = λ size at within. number_agree size (image_of one) (image_of other) at (λ place low high. same place (omega (arith, within, high))) in
+    λ i. record {
+      kind = same 0 (omega arith) i;
+      level = same 1 (omega arith) i;
+      count = number 2 2 (omega arith) i;
+      owner = number 4 4 (omega arith) i;
+      next = number 4 8 (omega arith) i;
+      prev = number 4 12 (omega arith) i;
+      ssn = number 8 16 (omega arith) i;
+      own = number 4 24 (omega arith) i;
+      used = number 4 28 (omega arith) i;
+    }

@@ -8,13 +8,9 @@ use Rattle.isp_format.specs.Control.{IsControl, IsFanout, IsPages, fanout_in, pa
 use Rattle.isp_format.specs.Doublewrite.{HasCopies, IsCopyList, area, copies, copies_from, copies_place, copy_at, copy_count, doublewrite_gate, laid, list_place, most_copies}
 use Rattle.isp_format.specs.Log.{IsLog, Transaction, log_bytes, log_of, log_place}
 use Rattle.isp_format.specs.Numbers.{number_at}
-use Rattle.isp_format.specs.Ranges.{Contents, Range, page_bytes, puts}
+use Rattle.isp_format.specs.Ranges.{Contents, Range, SameIn, page_bytes, puts}
 use Rattle.isp_format.proofs.LogWalks.{log_inside, log_same}
 use Rattle.isp_format.proofs.Slices.{number_agree, slice_agree}
-
--- the two images have the same bytes from a place on, so many
-abbrev pub SameIn : ℕ → ℕ → Image → Image → Type 0
-SameIn at size one other = (place : ℕ) → at ≤ place → place < at + size → one place ≡ other place
 
 -- the control block is read from the first 64 bytes
 pub pages_same : (one other : Image) → SameIn 0 64 one other → pages_in one ≡ pages_in other

@@ -1,8 +1,14 @@
 pub mod Contents
 pub mod Control
+pub mod Definition
 pub mod Doublewrite
 pub mod Empty
 pub mod Header
+pub mod Inner
+pub mod Kinds
+pub mod Leaf
 pub mod Log
 pub mod Numbers
 pub mod Ranges
+pub mod Space
+pub mod Undo

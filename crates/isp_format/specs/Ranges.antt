@@ -1,10 +1,14 @@
 -- Contents of all pages, and changes of ranges in them. Contents are a byte at every place: page p is the 4,096 bytes from
 -- place 4,096 p on.
-use Rattle.std.specs.Prelude.{ℕ, ◌+◌, ◌*◌, ◌<◌, ◌≤◌, List, [], ◌∷◌, length}
+use Rattle.std.specs.Prelude.{◌≡◌, ℕ, ◌+◌, ◌*◌, ◌<◌, ◌≤◌, List, [], ◌∷◌, length}
 use Rattle.isp_disk.specs.Moments.{Image, Region, either, in_range, no_place, put, slice}
 
 abbrev pub page_bytes : ℕ
 page_bytes = 4096
+
+-- the two images have the same bytes from a place on, so many
+abbrev pub SameIn : ℕ → ℕ → Image → Image → Type 0
+SameIn at size one other = (place : ℕ) → at ≤ place → place < at + size → one place ≡ other place
 
 -- the contents of all pages
 abbrev pub Contents : Type 0
@@ -37,5 +41,5 @@ cover [] = no_place
 cover (range ∷ ranges) = either (in_range (place_of range) (length range.bytes)) (cover ranges)
 
 -- the bytes of a page
-abbrev pub page_of : Contents → ℕ → List ℕ
+unfoldable pub page_of : Contents → ℕ → List ℕ
 page_of contents page = slice contents (page * page_bytes) page_bytes

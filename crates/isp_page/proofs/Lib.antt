@@ -1,3 +1,5 @@
+mod Differences
+pub mod Growing
 mod Heading
 mod Making
-pub mod Running
+pub mod Touching

@@ -1,6 +1,6 @@
 -- The pages of an empty file are made header by header.
-use Rattle.std.proofs.Common.{◌≡◌, ℕ, suc, ◌+◌, ◌*◌, ◌≤◌, List, [], ◌∷◌, ◌++◌, length, take, refl, sym, ◌∙◌, ap, arith}
-use Rattle.isp_disk.specs.Moments.{Image, image_of, put, slice}
+use Rattle.std.proofs.Common.{◌≡◌, ℕ, suc, ◌+◌, ◌*◌, ◌≤◌, List, [], ◌∷◌, length, take, sym, ◌∙◌, arith}
+use Rattle.isp_disk.specs.Moments.{Image, image_of, put}
 use Rattle.isp_format.specs.Empty.{empty_contents, first_fresh, first_header, first_headers, fresh_range}
 use Rattle.isp_format.specs.Header.{Header, header_bytes}
 use Rattle.isp_format.specs.Ranges.{Contents, Range, page_bytes, puts}

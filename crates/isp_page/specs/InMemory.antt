@@ -1,6 +1,8 @@
 -- Pages in memory.
-use Rattle.std.specs.Prelude.{ℕ, List, [], Some}
-use Rattle.isp_page.specs.Calls.{FileShape, MiniTransaction, Passes, none_begun}
+use Rattle.std.specs.Prelude.{ℕ, List, [], Result, true, ⊤}
+use Rattle.isp_page.specs.State.{FileShape, MiniTransaction, none_begun}
+use Rattle.isp_page.specs.Steps.{TellsBy}
+use Rattle.isp_page.specs.declared.fault.StoreFault.{StoreFault}
 
 pub record MemState : Type 0 where
   -- the bytes of all pages
@@ -23,6 +25,6 @@ new_pages pages fanout room bytes = record {
   print_faults = 0;
 }
 
--- a call of pages in memory, which tell no moments
-abbrev pub PassesInMemory : List ℕ → MemState → MemState → Type 0
-PassesInMemory piece old new = Passes (λ m. 0) (λ m t left said. ⊥) (λ m left. ⊥) (λ m. Some m.printed) piece old new
+-- pages in memory, which leave nothing at a stop, tell this piece
+abbrev pub TellsInMemory : List ℕ → MemState → MemState → Result ⊤ StoreFault → Type 0
+TellsInMemory = TellsBy ⊤ (λ m. m.shape) (λ m. m.printed) (λ m left. ⊥) (λ m. 0) (λ m t left told. ⊥) (λ m. 0) (λ m. m.print_faults) (λ m. true)

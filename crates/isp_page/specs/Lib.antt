@@ -1,3 +1,7 @@
 pub mod Calls
+pub mod Differences
 pub mod HeadValues
 pub mod InMemory
+pub mod State
+pub mod Steps
+pub mod Touched

@@ -48,10 +48,11 @@ pub fn get_i64(p: &Page, at: usize) -> i64
     get_u64(p, at).cast_signed()
 }
 
-/// Puts the bytes over those that stand there.
-pub(crate) fn put_bytes(p: &mut Page, at: usize, piece: &[u8])
+/// Puts the bytes over those that stand in the page from `at` on. Every other byte stays.
+pub fn put_bytes(p: &mut Page, at: usize, piece: &[u8])
     requires { at + length piece.now ≤ 4096 }
-    ensures put { (place : ℕ) → image_of p.new.bytes place ≡ put (image_of p.old.bytes) at piece.now place }
+    ensures put { (place : ℕ) → image_of p.new.bytes place
+        ≡ put (image_of p.old.bytes) at piece.now place }
     ensures size { length p.new.bytes ≡ length p.old.bytes }
 {
     p.bytes[at..at + piece.len()].copy_from_slice(piece);
@@ -67,8 +68,8 @@ pub(crate) fn put_kind(p: &mut Page, kind: u8, level: u8)
     put_bytes(p, 0, &[kind, level]);
 }
 
-/// Puts a number into the two bytes from `at` on.
-pub(crate) fn put_u16(p: &mut Page, at: usize, number: u16)
+/// Puts a number into the two bytes of the page from `at` on, its highest byte first. Every other byte stays.
+pub fn put_u16(p: &mut Page, at: usize, number: u16)
     requires { at + 2 ≤ 4096 }
     ensures put { (place : ℕ) → image_of p.new.bytes place
         ≡ put (image_of p.old.bytes) at (bytes_of 2 number) place }
@@ -80,8 +81,8 @@ pub(crate) fn put_u16(p: &mut Page, at: usize, number: u16)
     put_bytes(p, at, &piece);
 }
 
-/// Puts a number into the four bytes from `at` on.
-pub(crate) fn put_u32(p: &mut Page, at: usize, number: u32)
+/// Puts a number into the four bytes of the page from `at` on, its highest byte first. Every other byte stays.
+pub fn put_u32(p: &mut Page, at: usize, number: u32)
     requires { at + 4 ≤ 4096 }
     ensures put { (place : ℕ) → image_of p.new.bytes place
         ≡ put (image_of p.old.bytes) at (bytes_of 4 number) place }
@@ -93,8 +94,8 @@ pub(crate) fn put_u32(p: &mut Page, at: usize, number: u32)
     put_bytes(p, at, &piece);
 }
 
-/// Puts a number into the eight bytes from `at` on.
-pub(crate) fn put_u64(p: &mut Page, at: usize, number: u64)
+/// Puts a number into the eight bytes of the page from `at` on, its highest byte first. Every other byte stays.
+pub fn put_u64(p: &mut Page, at: usize, number: u64)
     requires { at + 8 ≤ 4096 }
     ensures put { (place : ℕ) → image_of p.new.bytes place
         ≡ put (image_of p.old.bytes) at (bytes_of 8 number) place }

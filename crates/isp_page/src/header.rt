@@ -1,6 +1,6 @@
 //! The header of a page, as a value.
 
-use crate::page::PageNo;
+use isp_base::PageNo;
 
 /// What the first 32 bytes of a page say of it.
 #[derive(Clone, Copy, Debug, PartialEq, Eq)]

@@ -6,7 +6,8 @@ ghost use Rattle.isp_page.specs.HeadValues.{header_in};
 
 use crate::fields::{get_u16, get_u32, get_u64, put_kind, put_u16, put_u32, put_u64};
 use crate::header::Head;
-use crate::page::{Page, PageNo};
+use crate::page::Page;
+use isp_base::PageNo;
 
 /// The header of the page.
 pub fn head(p: &Page) -> Head

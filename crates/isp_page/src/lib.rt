@@ -4,6 +4,7 @@
 //! - `page`, `header`, `heads`, `fields`: a page, the header at its front, and the numbers in it.
 //! - `fault`: why a call of a store of pages fails.
 //! - `pages`: the trait `Pages`.
+//! - `replacing`: `replace`, by which everything above changes a page.
 //! - `mem_pages`: pages in memory, which meet it.
 #![tactic(auto)]
 
@@ -14,14 +15,17 @@ mod heads;
 mod mem_pages;
 mod page;
 mod pages;
-#[cfg(test)]
-mod tests;
+mod replacing;
 mod trial;
 
 pub use fault::{Fault, StoreFault};
-pub use fields::{get_i32, get_i64, get_u16, get_u32, get_u64};
+pub use fields::{
+    get_i32, get_i64, get_u16, get_u32, get_u64, put_bytes, put_u16, put_u32, put_u64,
+};
 pub use header::Head;
 pub use heads::{head, set_head};
+pub use isp_base::PageNo;
 pub use mem_pages::MemPages;
-pub use page::{PAGE_BYTES, Page, PageNo};
+pub use page::{PAGE_BYTES, Page};
 pub use pages::Pages;
+pub use replacing::replace;

@@ -1,22 +1,23 @@
 //! Pages in memory, with no disk below them. They tell their contents and what was printed, and no moments.
-ghost use Rattle.std.specs.Prelude.{◌≡◌, ◌+◌, ◌*◌, ◌-◌, ◌<◌, ◌≤◌, ◌++◌, [], ℕ, Some, is_ok, length, nat_le, replicate, vec_capacity, IfOk, IsSome, OnOk, OnErr};
+ghost use Rattle.std.specs.Prelude.{◌≡◌, ◌+◌, ◌*◌, ◌-◌, ◌<◌, ◌≤◌, ◌++◌, [], ℕ, is_ok, length, nat_le, replicate, true, false, vec_capacity, IfErr, IfOk, OnOk, OnErr, ⊤};
 ghost use Rattle.isp_disk.specs.InMemory.{counted};
 ghost use Rattle.isp_disk.specs.Moments.{image_of, put, slice};
 ghost use Rattle.isp_format.specs.Control.{IsFanout, IsPages};
-ghost use Rattle.isp_disk.specs.Outside.{Prints};
+ghost use Rattle.isp_disk.specs.Outside.{HasCause};
 ghost use Rattle.isp_format.specs.Empty.{empty_contents, first_header, first_headers, first_kind};
 ghost use Rattle.isp_format.specs.Header.{header_bytes};
 ghost use Rattle.isp_format.specs.Ranges.{page_bytes, page_of, puts};
-ghost use Rattle.isp_page.specs.Calls.{AddsNone, FailsBy, FileShape, MiniTransaction, most_changed, with_page};
+ghost use Rattle.isp_page.specs.State.{FileShape, MiniTransaction, is_among, most_changed, with_page};
 ghost use Rattle.isp_page.specs.HeadValues.{header_in};
-ghost use Rattle.isp_page.specs.InMemory.{MemState, PassesInMemory, new_pages};
+ghost use Rattle.isp_page.specs.InMemory.{MemState, TellsInMemory, new_pages};
 ghost use Rattle.isp_page.specs.declared.fault.StoreFault.TheVariants.{Print};
 
 use crate::fault::StoreFault;
 use crate::header::Head;
 use crate::heads::set_head;
-use crate::page::{PAGE_BYTES, Page, PageNo};
+use crate::page::{PAGE_BYTES, Page};
 use crate::pages::Pages;
+use isp_base::PageNo;
 use std::alloc::{AllocError, Global};
 use std::marker::Model;
 
@@ -95,8 +96,11 @@ impl MemPages {
           printed = self.old.printed ++ line.now;
           room = self.old.room - length line.now;
         }) }
-        ensures refused { OnErr result (self.new ≡ record self.old { print_faults = counted self.old.print_faults }) }
-        ensures cause { FailsBy Print self.old.print_faults self.new.print_faults result }
+        ensures refused { OnErr result (self.new ≡ record self.old {
+          print_faults = counted self.old.print_faults;
+        }) }
+        ensures cause { HasCause self.old.print_faults self.new.print_faults result }
+        ensures by_print { IfErr result (λ fault. fault ≡ Print) }
     {
         if line.len() > self.room {
             self.print_faults = self.print_faults.saturating_add(1);
@@ -115,14 +119,16 @@ impl MemPages {
 fn put_over(bytes: &mut Vec<u8>, at: usize, piece: &[u8])
     requires { at + length piece.now ≤ length bytes.old.items }
     ensures size { length bytes.new.items ≡ length bytes.old.items }
-    ensures put { (place : ℕ) → image_of bytes.new.items place ≡ put (image_of bytes.old.items) at piece.now place }
+    ensures put { (place : ℕ) → image_of bytes.new.items place
+        ≡ put (image_of bytes.old.items) at piece.now place }
 {
     bytes[at..at + piece.len()].copy_from_slice(piece);
 }
 
 // Adds the page to those that were changed, unless it is one of them.
 fn note(changed: &mut Vec<u32>, page: u32)
-    requires { length (with_page page changed.old.items) ≤ vec_capacity changed.old }
+    requires { is_among page changed.old.items ≡ false
+        → length changed.old.items < vec_capacity changed.old }
     ensures noted { changed.new.items ≡ with_page page changed.old.items }
     ensures capacity { vec_capacity changed.old ≤ vec_capacity changed.new }
 {
@@ -186,7 +192,8 @@ fn put_first_header(bytes: &mut Vec<u8>, page: u32)
 fn empty_bytes(alloc: Global, pages: u32) -> Result<Vec<u8>, AllocError>
     requires { IsPages pages }
     ensures size { IfOk result (λ bytes. length bytes.items ≡ pages * page_bytes) }
-    ensures contents { IfOk result (λ bytes. (place : ℕ) → image_of bytes.items place ≡ empty_contents place) }
+    ensures contents { IfOk result (λ bytes. (place : ℕ)
+        → image_of bytes.items place ≡ empty_contents place) }
 {
     let mut bytes = vec![in alloc; 0u8; pages as usize * PAGE_BYTES]?;
     for page in 0..FIRST_FRESH {
@@ -197,15 +204,17 @@ fn empty_bytes(alloc: Global, pages: u32) -> Result<Vec<u8>, AllocError>
 }
 
 impl Pages for MemPages {
+    ghost tells = { ⊤ };
+
     ghost contents = { λ m. image_of m.bytes };
 
-    ghost told = { λ m. Some m.printed };
+    ghost told = { λ m. m.printed };
 
     ghost may_leave = { λ m left. ⊥ };
 
     ghost clock = { λ m. 0 };
 
-    ghost left_since = { λ m t left said. ⊥ };
+    ghost left_since = { λ m t left told. ⊥ };
 
     ghost shape = { λ m. m.shape };
 
@@ -216,6 +225,8 @@ impl Pages for MemPages {
     ghost disk_faults = { λ m. 0 };
 
     ghost print_faults = { λ m. m.print_faults };
+
+    ghost usable = { λ m. true };
 
     fn pages(&self) -> u32 {
         self.pages
@@ -263,16 +274,13 @@ impl Pages for MemPages {
           printed = self.old.printed ++ line.now;
           room = self.old.room - length line.now;
         }) }
-        ensures refused { OnErr result (self.new ≡ record self.old { print_faults = counted self.old.print_faults }) }
-        ensures told { Prints (Some self.old.printed) line.now (Some self.new.printed) result }
-        ensures contents { IsSome (Some self.old.printed) → image_of self.new.bytes ≡ image_of self.old.bytes }
+        ensures refused { OnErr result (self.new ≡ record self.old {
+          print_faults = counted self.old.print_faults;
+        }) }
+        ensures told { TellsInMemory line.now self.old self.new result }
+        ensures contents { image_of self.new.bytes ≡ image_of self.old.bytes }
         ensures mini { self.new.mini ≡ self.old.mini }
         ensures dirty { ◌≡◌ {A = ℕ} 0 0 }
-        ensures stops { IsSome (Some self.old.printed) → AddsNone (λ left. ⊥) (λ left. ⊥) }
-        ensures time { IsSome (Some self.old.printed) → PassesInMemory line.now self.old self.new }
-        ensures shape { self.new.shape ≡ self.old.shape }
-        ensures disk { ◌≡◌ {A = ℕ} 0 0 }
-        ensures cause { FailsBy Print self.old.print_faults self.new.print_faults result }
     {
         self.tell_kept(line)
     }

@@ -1,6 +1,4 @@
-use Rattle.std.proofs.Common.{rules, ◌≡◌, ℕ}
-use Rattle.isp_disk.specs.Moments.{Image, image_of, put}
-use Rattle.isp_format.specs.Header.{header_bytes}
+use Rattle.isp_disk.specs.Moments.{image_of}
 use Rattle.isp_format.proofs.Headers.{HeaderFits, header_back}
 use Rattle.isp_page.specs.HeadValues.{header_in}
 use Rattle.isp_page.proofs.Heading.{put_fields}

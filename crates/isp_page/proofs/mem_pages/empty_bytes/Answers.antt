@@ -1,7 +1,7 @@
-use Rattle.std.proofs.Common.{◌≡◌, ℕ, suc, ◌+◌, List, ◌∙◌, ap, arith}
-use Rattle.isp_disk.specs.Moments.{Image, image_of}
+use Rattle.std.proofs.Common.{◌≡◌, ℕ, suc, ◌+◌, ◌∙◌, ap, arith}
+use Rattle.isp_disk.specs.Moments.{image_of}
 use Rattle.isp_format.specs.Empty.{first_headers}
-use Rattle.isp_format.specs.Ranges.{page_bytes, puts}
+use Rattle.isp_format.specs.Ranges.{puts}
 use Rattle.isp_page.proofs.Making.{header_more, made, zeros}
 use Rattle.isp_page.proofs.mem_pages.empty_bytes.Goals as goal
 

@@ -1,6 +1,6 @@
-use Rattle.std.proofs.Common.{◌≡◌, ◌≤◌, ◌*◌, ℕ, List, length, take, ◌∙◌, ap, arith}
+use Rattle.std.proofs.Common.{◌≤◌, ◌*◌, ℕ, List, length, ◌∙◌, ap, arith}
 use Rattle.isp_disk.specs.Moments.{image_of, put}
-use Rattle.isp_format.specs.Header.{Header, header_bytes}
+use Rattle.isp_format.specs.Header.{header_bytes}
 use Rattle.isp_format.specs.Ranges.{page_bytes}
 use Rattle.isp_page.proofs.Making.{front_is}
 use Rattle.isp_page.proofs.mem_pages.put_first_header.Goals as goal

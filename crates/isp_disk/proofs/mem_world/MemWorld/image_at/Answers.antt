@@ -1,4 +1,4 @@
-use Rattle.std.proofs.Common.{◌≡◌, ◌-◌, ℕ, List, length, sym, ◌∙◌, ap, subst, arith, rules, take, Some}
+use Rattle.std.proofs.Common.{◌≡◌, ◌-◌, ℕ, List, length, sym, ◌∙◌, ap, subst, arith, rules, take}
 use Rattle.isp_disk.specs.Moments.{image_of}
 use Rattle.isp_disk.specs.InMemory.{LeftSince, WorldState, held_after, held_first}
 use Rattle.isp_disk.specs.Stops.{AreBelow, last_writes, printed_behind, put_writes, torn_behind, written_by}
@@ -30,5 +30,5 @@ returns-clause-moment c = λ t before.
     c.put_writes.ensures ∙ ap (λ (ws : List (ℕ × ℕ)). put_writes (torn_behind c.args.kept c.args.fill ws) c.in_ok-image.image.items) is in
     let bytes = λ (place : ℕ). c.in_ok-image.ensures.bytes place ∙ ap (λ (first : List ℕ). (held_after first (take made calls)).image place) c.deref.ensures.value in
     let log = ap (λ (w : WorldState). length w.log.calls) c.self.view_is in
-    let at_world : WorldState → Type 0 = λ w. LeftSince (held_first w.first) w.log.calls t (image_of c.put_writes.new.image.items) (Some (printed_behind w.first w.log.calls made)) in
+    let at_world : WorldState → Type 0 = λ w. LeftSince (held_first w.first) w.log.calls t (image_of c.put_writes.new.image.items) (printed_behind w.first w.log.calls made) in
     subst at_world c.self.view_is (stopped_moment c.len-size.result world.first.items calls made c.args.kept c.args.fill c.in_ok-image.image.items c.put_writes.new.image.items (omega (arith, c.requires.from_one, c.requires.made, log)) bytes puts t (omega (arith, before)))

@@ -1,11 +1,12 @@
 use Rattle.std.proofs.Common.{◌≡◌, ◌+◌, ◌-◌, ◌*◌, ◌≤◌, ℕ, List, length, take, drop, ◌∙◌, ap, arith}
 use Rattle.isp_disk.specs.Moments.{image_of, slice}
-use Rattle.isp_format.specs.Ranges.{page_bytes}
+use Rattle.isp_format.specs.Ranges.{page_of}
 use Rattle.isp_format.proofs.Slices.{piece_slice}
 use Rattle.isp_page.specs.InMemory.{MemState}
 use Rattle.isp_page.proofs.mem_pages.MemPagesPages.read.Goals as goal
 
 pub returns-clause-page : goal.returns-clause-page
+unfolding page_of
 returns-clause-page c = λ tells.
     let at : ℕ = c.args.p.0 * 4096 in
     let all : List ℕ = c.deref.result.now in
