@@ -1,16 +1,16 @@
 -- Pages written in their places.
-use Rattle.std.proofs.Common.{◌≡◌, inl, inr, ℕ, zero, suc, ◌+◌, ◌-◌, ◌*◌, ◌<◌, ◌≤◌, Bool, true, false, ◌||◌, List, [], ◌∷◌, ◌++◌, length, map, get_or, refl, sym, ◌∙◌, ap, subst, arith, if◌then◌else◌}
+use Rattle.std.proofs.Common.{◌≡◌, inl, inr, ℕ, zero, suc, ◌+◌, ◌-◌, ◌*◌, ◌<◌, false, ◌||◌, List, [], ◌∷◌, ◌++◌, length, map, get_or, refl, sym, ◌∙◌, ap, arith, if◌then◌else◌}
 use Rattle.std.specs.Prelude.{slice_index}
 use Rattle.std.proofs.lemmas.Bool.{cases_lt}
-use Rattle.isp_disk.specs.Moments.{Image, Region, Agree, Within, either, in_range, no_place, put, slice}
+use Rattle.isp_disk.specs.Moments.{Image, Within, in_range, put}
 use Rattle.isp_doublewrite.specs.Batches.{AreWhole, number_of, whole_page}
 use Rattle.isp_doublewrite.specs.Places.{page_places}
 use Rattle.isp_format.specs.Doublewrite.{area, area_place}
-use Rattle.isp_format.specs.Ranges.{Contents, Range, cover, page_bytes, place_of, puts}
+use Rattle.isp_format.specs.Ranges.{Range, cover, page_bytes, place_of, puts}
 use Rattle.isp_format.proofs.Places.{above, below, inside, neither, not_first, not_second}
 use Rattle.isp_format.proofs.Puts.{puts_append}
 use Rattle.isp_page.specs.declared.page.Page.{Page}
-use Rattle.isp_page.specs.declared.page.PageNo.{PageNo}
+use Rattle.isp_base.specs.declared.page_no.PageNo.{PageNo}
 
 -- a range that is moved
 pub moved : (by at size place : ℕ) → in_range (by + at) size (by + place) ≡ in_range at size place

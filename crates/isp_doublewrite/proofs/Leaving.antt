@@ -1,19 +1,18 @@
 -- What a stop leaves of the phases of a batch and of a restore, on images alone.
-use Rattle.std.proofs.Common.{◌≡◌, ◌≢◌, ◌⊎◌, inl, inr, ⊎_elim, ℕ, zero, suc, ◌+◌, ◌-◌, ◌*◌, ◌<◌, ◌≤◌, ◌==◌, Bool, true, false, ◌||◌, List, [], ◌∷◌, ◌++◌, All, length, map, min, Option, refl, sym, ◌∙◌, ap, subst, arith, if◌then◌else◌}
-use Rattle.std.specs.Prelude.{slice_index}
+use Rattle.std.proofs.Common.{◌≡◌, ◌≢◌, ◌⊎◌, inl, inr, ⊎_elim, ℕ, zero, suc, ◌+◌, ◌*◌, ◌≤◌, false, List, [], ◌∷◌, map, min, refl, sym, ◌∙◌, ap, subst, arith}
 use Rattle.std.proofs.lemmas.Bool.{cases_eq}
-use Rattle.isp_disk.specs.Moments.{Image, Region, Agree, Within, either, in_range, no_place, put, slice}
+use Rattle.isp_disk.specs.Moments.{Image, Region, Agree, Within, either, in_range, no_place, put}
 use Rattle.isp_disk.proofs.Moments.{agree_on, agree_wider}
-use Rattle.isp_doublewrite.specs.Batches.{AreWhole, BatchLeft, IsBatchDone, IsStaged, number_of, whole_page}
+use Rattle.isp_doublewrite.specs.Batches.{AreWhole, BatchLeft, IsBatchDone, IsStaged}
 use Rattle.isp_doublewrite.specs.Places.{batch_places, gate_place, page_places, staged_places}
 use Rattle.isp_doublewrite.specs.Restores.{AreLaid, RestoreLeft, copied_pages}
 use Rattle.isp_format.specs.Control.{pages_in}
-use Rattle.isp_format.specs.Doublewrite.{AreDistinct, HasCopies, IsCopyList, area, area_place, copies, copies_from, copies_place, copy_at, copy_count, count_place, doublewrite_gate, laid, list_place, most_copies}
-use Rattle.isp_format.specs.Ranges.{Contents, Range, cover, page_bytes, puts}
-use Rattle.isp_format.proofs.Local.{SameIn, copies_closed, copies_from_same, copies_open, count_same, listed}
-use Rattle.isp_format.proofs.Places.{above, below, inside, neither, not_first, not_second}
+use Rattle.isp_format.specs.Doublewrite.{HasCopies, IsCopyList, area, area_place, copies, copies_from, copies_place, copy_count, doublewrite_gate, laid, most_copies}
+use Rattle.isp_format.specs.Ranges.{Range, SameIn, cover, page_bytes, puts}
+use Rattle.isp_format.proofs.Local.{copies_closed, copies_from_same, copies_open, count_same}
+use Rattle.isp_format.proofs.Places.{above, neither, not_first, not_second}
 use Rattle.isp_format.proofs.Puts.{absorbs, puts_again}
-use Rattle.isp_format.proofs.Slices.{length-slice, put_above, put_below, put_inside}
+use Rattle.isp_format.proofs.Slices.{length-slice}
 use Rattle.isp_doublewrite.proofs.InPlace.{pages_above, pages_cover}
 
 -- the page area of images that agree there
@@ -49,7 +48,7 @@ open_rule pages count ranges image staged good gate =
     (subst (λ (all : List Range). IsCopyList pages count (map (λ copy. copy.page) all)) (sym is) good)
 
 -- an image with the list and the copies of a batch
-pub left_open : (count : ℕ) (ranges : List Range) (numbers : List ℕ) (before : Image) (told : Option (List ℕ)) (left : Image) (said : Option (List ℕ)) → IsCopyList (pages_in before) count (map (λ copy. copy.page) ranges) → IsStaged count ranges left → ((left doublewrite_gate ≢ 1) → (area left ≡ area before) ⊎ (area left ≡ puts ranges (area before))) → puts ranges (area left) ≡ puts ranges (area before) → Agree (batch_places numbers) before left → said ≡ told → BatchLeft ranges numbers before told left said
+pub left_open : (count : ℕ) (ranges : List Range) (numbers : List ℕ) (before : Image) (told : List ℕ) (left : Image) (said : List ℕ) → IsCopyList (pages_in before) count (map (λ copy. copy.page) ranges) → IsStaged count ranges left → ((left doublewrite_gate ≢ 1) → (area left ≡ area before) ⊎ (area left ≡ puts ranges (area before))) → puts ranges (area left) ≡ puts ranges (area before) → Agree (batch_places numbers) before left → said ≡ told → BatchLeft ranges numbers before told left said
 left_open count ranges numbers before told left said good staged closed whole others same = record {
   copies = open_rule (pages_in before) count ranges left staged good;
   whole = elim (cases_eq (left doublewrite_gate) 1) [
@@ -73,7 +72,7 @@ pub pages_in_batch : (numbers : List ℕ) → Within (page_places numbers) (batc
 pages_in_batch numbers place out = not_second (gate_place place) (page_places numbers place) (not_second (staged_places place) (either gate_place (page_places numbers) place) out)
 
 -- the first phase: the gate isn't 1
-pub while_staging : (ranges : List Range) (numbers : List ℕ) (before : Image) (told : Option (List ℕ)) (left : Image) (said : Option (List ℕ)) → before doublewrite_gate ≢ 1 → Agree staged_places before left → said ≡ told → BatchLeft ranges numbers before told left said
+pub while_staging : (ranges : List Range) (numbers : List ℕ) (before : Image) (told : List ℕ) (left : Image) (said : List ℕ) → before doublewrite_gate ≢ 1 → Agree staged_places before left → said ≡ told → BatchLeft ranges numbers before told left said
 while_staging ranges numbers before told left said shut agree same =
     let gate : left doublewrite_gate ≢ 1 = λ is. shut (agree 512 refl ∙ is) in
     record {
@@ -90,7 +89,7 @@ gate_beside_copies : (one other : Image) → Agree gate_place one other → Same
 gate_beside_copies one other agree place low high = agree place (above 512 1 place (omega (arith, low)))
 
 -- the second: the gate is written
-pub while_opening : (count : ℕ) (ranges : List Range) (numbers : List ℕ) (before staged : Image) (told : Option (List ℕ)) (left : Image) (said : Option (List ℕ)) → IsCopyList (pages_in before) count (map (λ copy. copy.page) ranges) → IsStaged count ranges staged → Agree staged_places before staged → Agree gate_place staged left → said ≡ told → BatchLeft ranges numbers before told left said
+pub while_opening : (count : ℕ) (ranges : List Range) (numbers : List ℕ) (before staged : Image) (told : List ℕ) (left : Image) (said : List ℕ) → IsCopyList (pages_in before) count (map (λ copy. copy.page) ranges) → IsStaged count ranges staged → Agree staged_places before staged → Agree gate_place staged left → said ≡ told → BatchLeft ranges numbers before told left said
 while_opening count ranges numbers before staged told left said good is_staged agree now same =
     let small : count ≤ 64 = good.most in
     let areas : area left ≡ area before = same_area gate_place staged left gate_below_area now ∙ same_area staged_places before staged staged_below_area agree in
@@ -109,7 +108,7 @@ pub record IsOpen (count : ℕ) (ranges : List Range) (numbers : List ℕ) (befo
   pub others : Agree (batch_places numbers) before opened
 
 -- the third: the pages are written in place
-pub while_placing : (count : ℕ) (ranges : List Range) (numbers : List ℕ) (before opened : Image) (told : Option (List ℕ)) (left : Image) (said : Option (List ℕ)) → IsCopyList (pages_in before) count (map (λ copy. copy.page) ranges) → map (λ range. range.page) ranges ≡ numbers → IsOpen count ranges numbers before opened → Agree (page_places numbers) opened left → said ≡ told → BatchLeft ranges numbers before told left said
+pub while_placing : (count : ℕ) (ranges : List Range) (numbers : List ℕ) (before opened : Image) (told : List ℕ) (left : Image) (said : List ℕ) → IsCopyList (pages_in before) count (map (λ copy. copy.page) ranges) → map (λ range. range.page) ranges ≡ numbers → IsOpen count ranges numbers before opened → Agree (page_places numbers) opened left → said ≡ told → BatchLeft ranges numbers before told left said
 while_placing count ranges numbers before opened told left said good are state now same =
     let small : count ≤ 64 = good.most in
     let gate : left doublewrite_gate ≡ 1 = sym (now 512 (pages_above numbers 512 (omega arith))) ∙ state.gate in
@@ -122,7 +121,7 @@ while_placing count ranges numbers before opened told left said good are state n
     same
 
 -- the fourth: the gate is closed
-pub while_closing : (count : ℕ) (ranges : List Range) (numbers : List ℕ) (before placed : Image) (told : Option (List ℕ)) (left : Image) (said : Option (List ℕ)) → IsCopyList (pages_in before) count (map (λ copy. copy.page) ranges) → IsStaged count ranges placed → area placed ≡ puts ranges (area before) → Agree (batch_places numbers) before placed → Agree gate_place placed left → said ≡ told → BatchLeft ranges numbers before told left said
+pub while_closing : (count : ℕ) (ranges : List Range) (numbers : List ℕ) (before placed : Image) (told : List ℕ) (left : Image) (said : List ℕ) → IsCopyList (pages_in before) count (map (λ copy. copy.page) ranges) → IsStaged count ranges placed → area placed ≡ puts ranges (area before) → Agree (batch_places numbers) before placed → Agree gate_place placed left → said ≡ told → BatchLeft ranges numbers before told left said
 while_closing count ranges numbers before placed told left said good is_staged is_placed others now same =
     let small : count ≤ 64 = good.most in
     let areas : area left ≡ puts ranges (area before) = same_area gate_place placed left gate_below_area now ∙ is_placed in
@@ -184,7 +183,7 @@ stand_staged pages before gate has =
     }
 
 -- no write was made
-pub unchanged : (pages : ℕ) (before : Image) (told : Option (List ℕ)) (left : Image) (said : Option (List ℕ)) → Agree no_place before left → said ≡ told → RestoreLeft pages before told left said
+pub unchanged : (pages : ℕ) (before : Image) (told : List ℕ) (left : Image) (said : List ℕ) → Agree no_place before left → said ≡ told → RestoreLeft pages before told left said
 unchanged pages before told left said agree same =
     let is : before ≡ left = λ i place. agree place refl i in
     record {
@@ -195,7 +194,7 @@ unchanged pages before told left said agree same =
     }
 
 -- an image with the copies, whatever its gate
-pub left_restoring : (pages : ℕ) (before : Image) (told : Option (List ℕ)) (left : Image) (said : Option (List ℕ)) → before doublewrite_gate ≡ 1 → HasCopies pages before → IsStaged (copy_count before) (copies before) left → ((left doublewrite_gate ≢ 1) → area left ≡ laid before) → puts (copies before) (area left) ≡ laid before → Agree (restored_places before) before left → said ≡ told → RestoreLeft pages before told left said
+pub left_restoring : (pages : ℕ) (before : Image) (told : List ℕ) (left : Image) (said : List ℕ) → before doublewrite_gate ≡ 1 → HasCopies pages before → IsStaged (copy_count before) (copies before) left → ((left doublewrite_gate ≢ 1) → area left ≡ laid before) → puts (copies before) (area left) ≡ laid before → Agree (restored_places before) before left → said ≡ told → RestoreLeft pages before told left said
 left_restoring pages before told left said gate has staged closed whole others same = record {
   copies = λ kept. open_rule pages (copy_count before) (copies before) left staged (has gate);
   same_pages = elim (cases_eq (left doublewrite_gate) 1) [
@@ -213,7 +212,7 @@ pages_in_restore : (before : Image) → Within (page_places (copied_pages before
 pages_in_restore before place out = not_second (gate_place place) (page_places (copied_pages before) place) out
 
 -- the copies are laid over their pages
-pub while_laying : (pages : ℕ) (before : Image) (told : Option (List ℕ)) (left : Image) (said : Option (List ℕ)) → before doublewrite_gate ≡ 1 → HasCopies pages before → Agree (page_places (copied_pages before)) before left → said ≡ told → RestoreLeft pages before told left said
+pub while_laying : (pages : ℕ) (before : Image) (told : List ℕ) (left : Image) (said : List ℕ) → before doublewrite_gate ≡ 1 → HasCopies pages before → Agree (page_places (copied_pages before)) before left → said ≡ told → RestoreLeft pages before told left said
 while_laying pages before told left said gate has agree same =
     let numbers = copied_pages before in
     let stand = stand_staged pages before gate has in
@@ -242,7 +241,7 @@ over_by pages before now gate has agree is =
     }
 
 -- the gate is closed behind them
-pub while_ending : (pages : ℕ) (before placed : Image) (told : Option (List ℕ)) (left : Image) (said : Option (List ℕ)) → before doublewrite_gate ≡ 1 → HasCopies pages before → AreOver pages before placed → Agree gate_place placed left → said ≡ told → RestoreLeft pages before told left said
+pub while_ending : (pages : ℕ) (before placed : Image) (told : List ℕ) (left : Image) (said : List ℕ) → before doublewrite_gate ≡ 1 → HasCopies pages before → AreOver pages before placed → Agree gate_place placed left → said ≡ told → RestoreLeft pages before told left said
 while_ending pages before placed told left said gate has over agree same =
     let areas : area left ≡ laid before = same_area gate_place placed left gate_below_area agree ∙ over.areas in
     left_restoring pages before told left said gate has

@@ -1,17 +1,16 @@
 -- The list of copies as numbers, and its rule as a test.
-use Rattle.std.proofs.Common.{◌≡◌, ◌≢◌, ◌⊎◌, inl, inr, ℕ, zero, suc, ◌+◌, ◌*◌, ◌<◌, ◌≤◌, ◌==◌, ◌&&◌, not, Bool, true, false, List, [], ◌∷◌, All, length, map, min, take, drop, get_or, refl, sym, ◌∙◌, ap, subst, arith}
+use Rattle.std.proofs.Common.{◌≡◌, ◌≢◌, ℕ, suc, ◌+◌, ◌*◌, ◌<◌, ◌≤◌, ◌==◌, ◌&&◌, not, Bool, true, false, List, [], ◌∷◌, All, length, map, min, take, drop, refl, sym, ◌∙◌, ap, subst, arith}
 use Rattle.std.specs.Prelude.{nat_lt, slice_index}
 use Rattle.std.specs.List.{list_any}
 use Rattle.std.proofs.lemmas.List.Elements.{All-cons, All-head, All-tail}
 use Rattle.std.proofs.lemmas.List.{get_or-drop, get_or-take, length-take}
-use Rattle.std.proofs.lemmas.Bool.{cases_eq}
 use Rattle.std.proofs.lemmas.Bool.Decides.{nat_tests}
 use Rattle.byteorder.specs.Endian.{big_number}
 use Rattle.isp_disk.specs.Moments.{Image, slice}
 use Rattle.isp_format.proofs.Headers.{number_read, slice_byte}
 use Rattle.isp_format.proofs.Slices.{slice_moved}
 use Rattle.isp_doublewrite.specs.Lists.{HasNumbers, IsNumbers, are_good, is_copy_list}
-use Rattle.isp_format.specs.Doublewrite.{AreDistinct, HasCopies, IsCopyList, copies, copies_from, copy_at, copy_count, doublewrite_gate, list_place, most_copies}
+use Rattle.isp_format.specs.Doublewrite.{AreDistinct, HasCopies, IsCopyList, copies, copies_from, copy_count, doublewrite_gate, list_place, most_copies}
 use Rattle.isp_format.specs.Numbers.{number_at}
 use Rattle.isp_format.specs.Ranges.{Range}
 use Rattle.isp_format.proofs.Local.{copies_open}

@@ -1,18 +1,16 @@
 -- The list and the copies, written one after the other.
-use Rattle.std.proofs.Common.{◌≡◌, ℕ, zero, suc, ◌+◌, ◌-◌, ◌*◌, ◌<◌, ◌≤◌, ◌^◌, Bool, true, false, ◌||◌, List, [], ◌∷◌, ◌++◌, length, map, min, take, get_or, refl, sym, ◌∙◌, ap, subst, arith}
-use Rattle.std.proofs.lemmas.List.{take_more}
-use Rattle.isp_disk.specs.Moments.{Image, Region, Agree, Within, either, in_range, no_place, put, slice}
-use Rattle.isp_doublewrite.specs.Batches.{AreWhole, IsStaged, number_of, whole_page}
+use Rattle.std.proofs.Common.{◌≡◌, ℕ, zero, suc, ◌+◌, ◌*◌, ◌<◌, ◌≤◌, ◌^◌, Bool, true, false, List, [], ◌∷◌, ◌++◌, length, map, refl, sym, ◌∙◌, ap, arith}
+use Rattle.isp_disk.specs.Moments.{Image, in_range, put, slice}
+use Rattle.isp_doublewrite.specs.Batches.{AreWhole, whole_page}
 use Rattle.isp_doublewrite.specs.Places.{staged_places}
-use Rattle.isp_format.specs.Doublewrite.{area_place, copies_from, copies_place, copy_at, copy_count, list_place}
+use Rattle.isp_format.specs.Doublewrite.{copies_from, copies_place, copy_at, copy_count, list_place}
 use Rattle.isp_format.specs.Numbers.{bytes_of, number_at}
 use Rattle.isp_format.specs.Ranges.{Range, page_bytes}
-use Rattle.isp_format.proofs.Local.{SameIn, copies_from_same}
-use Rattle.isp_format.proofs.Places.{above, before_end, below, from_start, inside, neither, not_first, not_second}
+use Rattle.isp_format.proofs.Places.{before_end, from_start, inside, not_first, not_second}
 use Rattle.isp_format.proofs.Slices.{number_agree, number_put, put_above, put_below, slice_agree, slice_put}
 use Rattle.byteorder.specs.Numbers.{length-bytes_high_first}
 use Rattle.isp_page.specs.declared.page.Page.{Page}
-use Rattle.isp_page.specs.declared.page.PageNo.{PageNo}
+use Rattle.isp_base.specs.declared.page_no.PageNo.{PageNo}
 
 -- the copies before the last of them
 pub copies_upto : (one other : Image) (k count last : ℕ) → k + count ≤ last → ((place : ℕ) → list_place ≤ place → place < list_place + 4 * last → one place ≡ other place) → ((place : ℕ) → copies_place ≤ place → place < copies_place + page_bytes * last → one place ≡ other place) → copies_from one k count ≡ copies_from other k count

@@ -1,12 +1,12 @@
 -- What a batch leaves.
-use Rattle.std.specs.Prelude.{◌≡◌, ◌⊎◌, ℕ, ◌+◌, ◌*◌, List, [], ◌∷◌, length, map, Option}
+use Rattle.std.specs.Prelude.{◌≡◌, ◌≢◌, ◌⊎◌, ℕ, ◌<◌, ◌≤◌, All, List, [], ◌∷◌, length}
 use Rattle.isp_disk.specs.Moments.{Image, Agree}
 use Rattle.isp_doublewrite.specs.Places.{batch_places}
 use Rattle.isp_format.specs.Control.{pages_in}
-use Rattle.isp_format.specs.Doublewrite.{HasCopies, area, copies_from, copy_count, doublewrite_gate, laid}
+use Rattle.isp_format.specs.Doublewrite.{AreDistinct, HasCopies, area, copies_from, copy_count, doublewrite_gate, laid, most_copies}
 use Rattle.isp_format.specs.Ranges.{Range, page_bytes, puts}
 use Rattle.isp_page.specs.declared.page.Page.{Page}
-use Rattle.isp_page.specs.declared.page.PageNo.{PageNo}
+use Rattle.isp_base.specs.declared.page_no.PageNo.{PageNo}
 
 abbrev pub number_of : PageNo × Page → ℕ
 number_of entry = entry.0.0
@@ -19,6 +19,17 @@ whole_page entry = record { page = entry.0.0; at = 0; bytes = entry.1.bytes }
 abbrev pub AreWhole : List Range → Type 0
 AreWhole [] = Unit {0}
 AreWhole (range ∷ ranges) = (range.at ≡ 0) × (length range.bytes ≡ page_bytes) × AreWhole ranges
+
+-- 1 to 64 pages, none of them twice
+pub record FitsBatch (numbers : List ℕ) : Type 0 where
+  pub some : 1 ≤ length numbers
+  pub most : length numbers ≤ most_copies
+  pub distinct : AreDistinct numbers
+
+-- the file takes a batch of these pages: no copy counts, and all of them are pages of it
+pub record TakesBatch (numbers : List ℕ) (image : Image) : Type 0 where
+  pub closed : image doublewrite_gate ≢ 1
+  pub below : All (λ page. page < pages_in image) numbers
 
 -- the list and the copies are these pages
 pub record IsStaged (count : ℕ) (ranges : List Range) (image : Image) : Type 0 where
@@ -37,7 +48,7 @@ pub record IsBatchDone (ranges : List Range) (numbers : List ℕ) (before now : 
   pub others : Agree (batch_places numbers) before now
 
 -- A stop leaves a list that keeps its rule, and with the copies laid over the pages none of the batch or all of it.
-pub record BatchLeft (ranges : List Range) (numbers : List ℕ) (before : Image) (told : Option (List ℕ)) (left : Image) (said : Option (List ℕ)) : Type 0 where
+pub record BatchLeft (ranges : List Range) (numbers : List ℕ) (before : Image) (told : List ℕ) (left : Image) (said : List ℕ) : Type 0 where
   pub copies : HasCopies (pages_in before) left
   pub whole : (laid left ≡ area before) ⊎ (laid left ≡ puts ranges (area before))
   pub others : Agree (batch_places numbers) before left

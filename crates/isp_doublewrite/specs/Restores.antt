@@ -1,5 +1,5 @@
 -- What a restore leaves.
-use Rattle.std.specs.Prelude.{◌≡◌, ◌≢◌, ℕ, List, map, Option}
+use Rattle.std.specs.Prelude.{◌≡◌, ◌≢◌, ℕ, List, map}
 use Rattle.isp_disk.specs.Moments.{Image, Agree, either}
 use Rattle.isp_doublewrite.specs.Places.{gate_place, page_places}
 use Rattle.isp_doublewrite.specs.declared.restoring.Restored.{Restored}
@@ -24,7 +24,7 @@ IsRestored pages before now Bad = (HasCopies pages before → ⊥) × (now ≡ b
 IsRestored pages before now Laid = AreLaid pages before now
 
 -- A stop leaves a list that keeps its rule if it kept it before, and the same pages with the copies laid over them.
-pub record RestoreLeft (pages : ℕ) (before : Image) (told : Option (List ℕ)) (left : Image) (said : Option (List ℕ)) : Type 0 where
+pub record RestoreLeft (pages : ℕ) (before : Image) (told : List ℕ) (left : Image) (said : List ℕ) : Type 0 where
   pub copies : HasCopies pages before → HasCopies pages left
   pub same_pages : laid left ≡ laid before
   pub others : Agree (either gate_place (page_places (copied_pages before))) before left

@@ -12,8 +12,6 @@ mod batch;
 mod list;
 mod places;
 mod restoring;
-#[cfg(test)]
-mod tests;
 
 pub use batch::write_batch;
 pub use list::check_copies;

@@ -1,9 +1,7 @@
 //! The list of copies, as it is read, and its rule.
-ghost use Rattle.std.specs.Prelude.{◌≡◌, ◌↔◌, ◌≤◌, ◌==◌, IsSome, IsTrue, IfOk, OnOk, length, min, take};
-ghost use Rattle.isp_disk.specs.Moments.{LeavesOnly, Quiet};
-ghost use Rattle.isp_disk.proofs.Moments.{Phase};
-ghost use Rattle.isp_disk.specs.Moments.{no_place};
-ghost use Rattle.isp_disk.specs.Outside.{HasCause};
+ghost use Rattle.std.specs.Prelude.{◌≡◌, ◌↔◌, ◌≤◌, ◌==◌, IsTrue, IfOk, OnOk, length, min, take};
+ghost use Rattle.isp_disk.specs.Moments.{Quiet};
+ghost use Rattle.isp_disk.specs.Phases.{OnlyReads};
 ghost use Rattle.isp_doublewrite.specs.Lists.{IsNumbers, are_good, is_copy_list};
 ghost use Rattle.isp_format.specs.Doublewrite.{HasCopies, copy_count, doublewrite_gate};
 
@@ -15,11 +13,9 @@ use isp_disk::{Failed, World};
 /// twice. Nothing is written.
 pub fn check_copies<W: World>(world: &mut W, pages: u32) -> Result<bool, Failed>
     requires { Quiet (W.pending world.old) }
-    ensures kept { IsSome (W.printed world.old)
+    ensures kept { W.tells
         → IfOk result (λ kept. IsTrue kept ↔ HasCopies pages (W.image world.old)) }
-    ensures phase { Phase W.clock W.left_since W.image W.pending W.printed world.old world.new no_place }
-    ensures cause { HasCause (W.disk_faults world.old) (W.disk_faults world.new) result }
-    ensures printer { W.print_faults world.new ≡ W.print_faults world.old }
+    ensures reads { OnlyReads W.World world.old world.new result }
 {
     if read_gate(world)? != 1 {
         return Ok(true);
@@ -32,10 +28,8 @@ pub fn check_copies<W: World>(world: &mut W, pages: u32) -> Result<bool, Failed>
 /// Reads the gate.
 pub(crate) fn read_gate<W: World>(world: &mut W) -> Result<u8, Failed>
     requires { Quiet (W.pending world.old) }
-    ensures gate { IsSome (W.printed world.old) → IfOk result (λ gate. gate ≡ W.image world.old doublewrite_gate) }
-    ensures phase { Phase W.clock W.left_since W.image W.pending W.printed world.old world.new no_place }
-    ensures cause { HasCause (W.disk_faults world.old) (W.disk_faults world.new) result }
-    ensures printer { W.print_faults world.new ≡ W.print_faults world.old }
+    ensures gate { W.tells → IfOk result (λ gate. gate ≡ W.image world.old doublewrite_gate) }
+    ensures reads { OnlyReads W.World world.old world.new result }
 {
     let mut gate = [0];
     world.read(GATE, &mut gate)?;
@@ -46,11 +40,9 @@ pub(crate) fn read_gate<W: World>(world: &mut W) -> Result<u8, Failed>
 pub(crate) fn read_list<W: World>(world: &mut W, numbers: &mut [u32]) -> Result<u32, Failed>
     requires quiet { Quiet (W.pending world.old) }
     requires all { length numbers.old ≡ 64 }
-    ensures count { IsSome (W.printed world.old) → IfOk result (λ count. count ≡ copy_count (W.image world.old)) }
-    ensures numbers { IsSome (W.printed world.old) → OnOk result (IsNumbers (W.image world.old) numbers.new) }
-    ensures phase { Phase W.clock W.left_since W.image W.pending W.printed world.old world.new no_place }
-    ensures cause { HasCause (W.disk_faults world.old) (W.disk_faults world.new) result }
-    ensures printer { W.print_faults world.new ≡ W.print_faults world.old }
+    ensures count { W.tells → IfOk result (λ count. count ≡ copy_count (W.image world.old)) }
+    ensures numbers { W.tells → OnOk result (IsNumbers (W.image world.old) numbers.new) }
+    ensures reads { OnlyReads W.World world.old world.new result }
 {
     let mut list = [0; 260];
     world.read(COUNT, &mut list)?;

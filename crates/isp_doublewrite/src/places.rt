@@ -1,8 +1,7 @@
 //! Where the doublewrite area and the pages stand in the file, and the gate.
-ghost use Rattle.std.specs.Prelude.{◌≡◌, ◌+◌, ◌*◌, ◌^◌, ◌<◌, [], ◌∷◌, IsSome, OnOk, length};
-ghost use Rattle.isp_disk.proofs.Moments.{Phase};
-ghost use Rattle.isp_disk.specs.Moments.{During, Elapses, Quiet, Touches, in_range, put};
-ghost use Rattle.isp_disk.specs.Outside.{HasCause};
+ghost use Rattle.std.specs.Prelude.{◌≡◌, ◌+◌, ◌*◌, ◌^◌, ◌<◌, [], ◌∷◌, OnOk, length};
+ghost use Rattle.isp_disk.specs.Moments.{Quiet, put};
+ghost use Rattle.isp_disk.specs.Phases.{IsWrite, WritesIn};
 ghost use Rattle.isp_doublewrite.specs.Places.{gate_place};
 ghost use Rattle.isp_format.specs.Doublewrite.{area_place, copies_place, doublewrite_gate, list_place};
 ghost use Rattle.isp_format.specs.Numbers.{bytes_of};
@@ -54,15 +53,10 @@ pub(crate) fn all_bytes(page: &Page) -> &[u8]
 
 /// Writes a number in four bytes.
 pub(crate) fn write_number<W: World>(world: &mut W, at: u64, number: u32) -> Result<(), Failed>
-    ensures written { IsSome (W.printed world.old) → OnOk result (W.image world.new
-        ≡ put (W.image world.old) at (bytes_of 4 number)) }
-    ensures disk { Touches (W.image world.old) (W.pending world.old) at 4 (W.image world.new) (W.pending world.new) }
-    ensures printed { W.printed world.new ≡ W.printed world.old }
-    ensures time { Elapses (W.clock world.old) (W.clock world.new) (W.left_since world.old) (W.left_since world.new)
-        (During (W.image world.old) (W.pending world.old) (in_range at 4) (W.printed world.old) []) }
+    ensures written { W.tells
+        → OnOk result (W.image world.new ≡ put (W.image world.old) at (bytes_of 4 number)) }
+    ensures write { IsWrite W.World at 4 world.old world.new result }
     ensures fits { number < 256 ^ 4 }
-    ensures cause { HasCause (W.disk_faults world.old) (W.disk_faults world.new) result }
-    ensures printer { W.print_faults world.new ≡ W.print_faults world.old }
 {
     let mut piece = [0; 4];
     BigEndian::write_u32(&mut piece, number);
@@ -73,12 +67,9 @@ pub(crate) fn write_number<W: World>(world: &mut W, at: u64, number: u32) -> Res
 /// Writes the gate, and makes it durable.
 pub(crate) fn set_gate<W: World>(world: &mut W, gate: u8) -> Result<(), Failed>
     requires { Quiet (W.pending world.old) }
-    ensures phase { Phase W.clock W.left_since W.image W.pending W.printed world.old world.new gate_place }
-    ensures written { IsSome (W.printed world.old) → OnOk result (W.image world.new
-        ≡ put (W.image world.old) doublewrite_gate (gate ∷ [])) }
-    ensures quiet { OnOk result (Quiet (W.pending world.new)) }
-    ensures cause { HasCause (W.disk_faults world.old) (W.disk_faults world.new) result }
-    ensures printer { W.print_faults world.new ≡ W.print_faults world.old }
+    ensures written { W.tells
+        → OnOk result (W.image world.new ≡ put (W.image world.old) doublewrite_gate (gate ∷ [])) }
+    ensures wrote { WritesIn W.World gate_place world.old world.new result }
 {
     world.write(GATE, &[gate])?;
     world.sync()?;

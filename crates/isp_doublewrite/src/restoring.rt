@@ -1,8 +1,7 @@
 //! Copies that count are laid over their pages.
-ghost use Rattle.std.specs.Prelude.{◌≡◌, ◌≤◌, IsSome, IfOk, OnOk, length};
-ghost use Rattle.isp_disk.proofs.Moments.{Phase};
+ghost use Rattle.std.specs.Prelude.{◌≤◌, IfOk, OnOk, length};
 ghost use Rattle.isp_disk.specs.Moments.{LeavesOnly, Quiet};
-ghost use Rattle.isp_disk.specs.Outside.{HasCause};
+ghost use Rattle.isp_disk.specs.Phases.{EndsQuiet, WritesIn};
 ghost use Rattle.isp_doublewrite.specs.Batches.{IsPlaced};
 ghost use Rattle.isp_doublewrite.specs.Lists.{HasNumbers};
 ghost use Rattle.isp_doublewrite.specs.Places.{page_places};
@@ -28,14 +27,11 @@ pub enum Restored {
 /// with the copies laid over them, and every other byte as it was.
 pub fn restore<W: World>(world: &mut W, pages: u32) -> Result<Restored, Failed>
     requires { Quiet (W.pending world.old) }
-    ensures done { IsSome (W.printed world.old)
+    ensures done { W.tells
         → IfOk result (IsRestored pages (W.image world.old) (W.image world.new)) }
-    ensures quiet { OnOk result (Quiet (W.pending world.new)) }
-    ensures stops { IsSome (W.printed world.old) → LeavesOnly W.clock W.left_since world.old world.new
+    ensures stops { W.tells → LeavesOnly W.clock W.left_since world.old world.new
         (RestoreLeft pages (W.image world.old) (W.printed world.old)) }
-    ensures printed { W.printed world.new ≡ W.printed world.old }
-    ensures cause { HasCause (W.disk_faults world.old) (W.disk_faults world.new) result }
-    ensures printer { W.print_faults world.new ≡ W.print_faults world.old }
+    ensures ends { EndsQuiet W.World world.old world.new result }
 {
     if read_gate(world)? != 1 {
         return Ok(Restored::Nothing);
@@ -54,14 +50,11 @@ pub fn restore<W: World>(world: &mut W, pages: u32) -> Result<Restored, Failed>
 fn lay<W: World>(world: &mut W, numbers: &[u32]) -> Result<(), Failed>
     requires quiet { Quiet (W.pending world.old) }
     requires most { length numbers.now ≤ most_copies }
-    requires numbers { IsSome (W.printed world.old) → HasNumbers (W.image world.old) numbers.now }
-    ensures phase { Phase W.clock W.left_since W.image W.pending W.printed world.old world.new
-        (page_places numbers.now) }
-    ensures placed { IsSome (W.printed world.old) → OnOk result (IsPlaced
-        (copies_from (W.image world.old) 0 (length numbers.now)) (W.image world.old) (W.image world.new)) }
-    ensures quiet { OnOk result (Quiet (W.pending world.new)) }
-    ensures cause { HasCause (W.disk_faults world.old) (W.disk_faults world.new) result }
-    ensures printer { W.print_faults world.new ≡ W.print_faults world.old }
+    requires numbers { W.tells → HasNumbers (W.image world.old) numbers.now }
+    ensures placed { W.tells → OnOk result (IsPlaced
+        (copies_from (W.image world.old) 0 (length numbers.now))
+        (W.image world.old) (W.image world.new)) }
+    ensures wrote { WritesIn W.World (page_places numbers.now) world.old world.new result }
 {
     let mut page = [0; 4_096];
     for (k, number) in numbers.iter().enumerate() {

@@ -1,32 +1,32 @@
 -- A cache before and after a call, over any world.
-use Rattle.std.proofs.Common.{◌≡◌, ◌∙◌, ◌+◌, ◌*◌, ◌≤◌, ◌||◌, true, false, List, [], ◌∷◌, ℕ, suc, Option, Some, None, refl, sym, ap, subst, length, map, set, set-set}
+use Rattle.std.proofs.Common.{◌≡◌, ◌∙◌, ◌+◌, ◌*◌, ◌≤◌, ◌||◌, false, List, [], ◌∷◌, ℕ, suc, Option, Some, None, refl, sym, ap, subst, length, map, set, set-set}
 use Rattle.std.specs.Option.{option_map}
-use Rattle.isp_disk.specs.Moments.{Agree, Image, Quiet, Region, Within, either, in_range, put}
+use Rattle.isp_disk.specs.Moments.{Agree, Image, Region, Within, either, in_range, put}
 use Rattle.isp_disk.specs.declared.world.World.{Ghosts}
-use Rattle.isp_disk.proofs.Moments.{chains, started, widens}
 use Rattle.isp_doublewrite.specs.Batches.{whole_page}
 use Rattle.isp_format.specs.Contents.{ranges_of}
 use Rattle.isp_format.specs.Control.{IsControl, fanout_in, pages_in}
 use Rattle.isp_format.specs.Doublewrite.{area, doublewrite_gate}
-use Rattle.isp_format.specs.Log.{IsLog, Transaction, log_of}
-use Rattle.isp_format.specs.Ranges.{Contents, cover, page_bytes, puts}
+use Rattle.isp_format.specs.Log.{IsLog, Transaction, log_bytes, log_of, log_place}
+use Rattle.isp_format.specs.Ranges.{Contents, SameIn, cover, page_bytes, puts}
 use Rattle.isp_format.proofs.Places.{neither, not_first, not_second}
 use Rattle.isp_format.proofs.Puts.{mixes}
 use Rattle.isp_format.proofs.Slices.{put_outside}
-use Rattle.isp_frames.specs.Cached.{IsCached, KeepsCached, now}
+use Rattle.isp_frames.specs.Cached.{CachesAs, IsCached, StaysCached, now}
 use Rattle.isp_frames.specs.Gathered.{IsGathered}
-use Rattle.isp_frames.specs.Held.{AreClean, cleaned_at, held_pages, now_over, page_places, pinned_places}
+use Rattle.isp_frames.specs.Held.{AreClean, AreFree, cleaned_at, held_pages, now_over, pinned_places}
 use Rattle.isp_frames.specs.declared.cache.Cache.{Cache}
 use Rattle.isp_page.specs.declared.page.Page.{Page}
-use Rattle.isp_page.specs.declared.page.PageNo.{PageNo}
+use Rattle.isp_base.specs.declared.page_no.PageNo.{PageNo}
 use Rattle.isp_pool.specs.declared.frames.Frame.{Frame}
-use Rattle.isp_pool.specs.Frames.{IsPool, PoolState, changed, edited, frame_at, frame_in, fresh_frame, is_pinned, loaded, used, with_frame}
-use Rattle.isp_stable.specs.File.{HasBatches, IsFile, KeepsShape, StandsOnly, flushed, placed}
+use Rattle.isp_pool.specs.Frames.{IsPool, PoolState, changed, edited, frame_at, frame_in, fresh_frame, is_pinned, loaded, used}
+use Rattle.isp_stable.specs.File.{ArePagesOf, HasBatches, HasWritten, IsFile, KeepsShape, placed}
 use Rattle.isp_stable.specs.declared.stable.Stable.{Stable}
-use Rattle.isp_stable.proofs.Files.{beside, file_of, reads_only}
+use Rattle.isp_stable.proofs.Files.{beside, file_of}
 use Rattle.isp_frames.proofs.HeldLaws.{change_now, change_pins}
-use Rattle.isp_frames.proofs.NowLaws.{IsLoading, changed_clean, flagged_now, loaded_clean, loaded_now, overwrite, pinned_clean, pool_apart, range_outside}
-use Rattle.isp_frames.proofs.PinLaws.{out_of_pinned, pinned_one, unpinned_set}
+use Rattle.isp_frames.proofs.NowLaws.{IsLoading, changed_clean, loaded_clean, loaded_now, overwrite, pool_apart}
+use Rattle.isp_frames.proofs.PageLaws.{pages_same}
+use Rattle.isp_frames.proofs.PinLaws.{unpinned_set}
 
 -- outside of what the log and pinned pages cover nothing differs, after other words for the same
 covered_same : (region pins pins_now : Region) (before contents before_now contents_now : Contents) → Within pins pins_now → before_now ≡ before → contents_now ≡ contents
@@ -47,6 +47,9 @@ none_held (Some f ∷ frames) free = absurd (is_free (free 0))
     is_free : frame_in (Some f ∷ frames) 0 ≡ None → ⊥
     is_free e = absurd (cc)
 
+pub none_clean : (frames : List (Option Frame)) (placed : Contents) → ((i : ℕ) → frame_in frames i ≡ None) → AreClean frames placed
+none_clean frames placed free i f e flag = let none : ◌≡◌ {A = Option Frame} None (Some f) = sym (free i) ∙ e in absurd (cc)
+
 -- a page is loaded as it would be had its frame not been cleaned before
 pub loaded_cleaned : (s : PoolState) (i : ℕ) (p : PageNo) (page : Page) → loaded (cleaned_at s i) i p page ≡ loaded s i p page
 loaded_cleaned s i p page =
@@ -56,7 +59,7 @@ loaded_cleaned s i p page =
 
 module _ {W : Type 0} (g : Ghosts W) where
   -- the file after calls that wrote nothing
-  pub file_same : (s t : Stable W) (file : IsFile g s) → g.image t.world ≡ g.image s.world → t.log ≡ s.log → KeepsShape g s t → HasBatches g t file.batches
+  pub file_same : (s t : Stable W) (file : IsFile g s) → g.image t.world ≡ g.image s.world → t.log ≡ s.log → KeepsShape s t → HasBatches g t file.batches
   file_same s t file image log shape =
       let is = beside g s file in
       let end : t.log.end ≡ s.log.end = λ i. (log i).end in
@@ -71,21 +74,18 @@ module _ {W : Type 0} (g : Ghosts W) where
       (subst (λ (n : ℕ). IsLog s.pages (log_of (g.image s.world)) 0 file.batches n) (sym end) file.log)))
 
   -- free frames over a file
-  pub free_cached : (s : Cache W) → IsFile g s.stable → ((i : ℕ) → frame_at s.pool i ≡ None) → IsCached g s
+  abbrev pub free_cached : (s : Cache W) → IsFile g s.stable → AreFree s.pool → IsCached g s
   free_cached s file free = record {
     file = file;
-    clean = λ i f e flag. absurd (is_none f (frame_at s.pool i) e (free i));
+    clean = none_clean s.pool.frames (placed g s.stable) free;
     covered = λ place out. sym (λ i. puts (none_held s.pool.frames free i) (placed g s.stable) place);
   }
-    where
-      is_none : (f : Frame) (o : Option Frame) → o ≡ Some f → o ≡ None → ⊥
-      is_none f o some none = absurd (cc)
 
-  -- pages in their places as they were, frames that give the same contents over them, and no fewer pinned pages
-  pub cached_same : (old new : Cache W) (cached : IsCached g old) → HasBatches g new.stable cached.file.batches → placed g new.stable ≡ placed g old.stable
+  -- pages in their places as they were, frames that give the same contents over them, no fewer pinned pages, and the log's bytes
+  pub stays_same : (old new : Cache W) (cached : IsCached g old) → HasBatches g new.stable cached.file.batches → placed g new.stable ≡ placed g old.stable
       → AreClean new.pool.frames (placed g old.stable) → Within (pinned_places old.pool.frames) (pinned_places new.pool.frames) → now_over new.pool.frames (placed g old.stable) ≡ now g old
-      → KeepsCached g old new cached.file.batches
-  cached_same old new cached has place clean pins same =
+      → SameIn log_place log_bytes (g.image old.stable.world) (g.image new.stable.world) → StaysCached g old new cached.file.batches
+  stays_same old new cached has place clean pins same log =
       let contents : now g new ≡ now g old = ap (now_over new.pool.frames) place ∙ same in
       let made : IsCached g new = record {
         file = has.0;
@@ -94,44 +94,47 @@ module _ {W : Type 0} (g : Ghosts W) where
             (covered_same (cover (ranges_of cached.file.batches)) (pinned_places old.pool.frames) (pinned_places new.pool.frames)
             (placed g old.stable) (now g old) (placed g new.stable) (now g new) pins place contents cached.covered);
       } in
-      (made, has.1, ap (puts (ranges_of cached.file.batches)) place, contents)
+      record {
+        after = record { cached = made; same = has.1; stands = ap (puts (ranges_of cached.file.batches)) place; contents_are = contents };
+        pages = pages_same (placed g old.stable) (now g old) (placed g new.stable) place;
+        log = log;
+      }
 
-  pub used_keeps : (old new : Cache W) (cached : IsCached g old) (i : ℕ) → new.stable ≡ old.stable → new.pool ≡ used old.pool i → KeepsCached g old new cached.file.batches
-  used_keeps old new cached i stable pool =
+  -- nothing was done
+  pub stays_still : (s : Cache W) (cached : IsCached g s) → StaysCached g s s cached.file.batches
+  stays_still s cached = stays_same s s cached (cached.file, refl) refl cached.clean (λ place out. out) refl (λ place low high. refl)
+
+  -- the page in a frame was used
+  pub stays_used : (old new : Cache W) (cached : IsCached g old) (i : ℕ) → new.stable ≡ old.stable → new.pool ≡ used old.pool i → StaysCached g old new cached.file.batches
+  stays_used old new cached i stable pool =
       let frames : old.pool.frames ≡ new.pool.frames = sym (ap (λ (s : PoolState). s.frames) pool) in
-      cached_same old new cached (subst (λ (s : Stable W). HasBatches g s cached.file.batches) (sym stable) (cached.file, refl)) (ap (placed g) stable)
+      stays_same old new cached (subst (λ (s : Stable W). HasBatches g s cached.file.batches) (sym stable) (cached.file, refl)) (ap (placed g) stable)
       (subst (λ (fs : List (Option Frame)). AreClean fs (placed g old.stable)) frames cached.clean) (within_same (pinned_places old.pool.frames) (pinned_places new.pool.frames) (ap pinned_places (sym frames)))
-      (ap (λ (fs : List (Option Frame)). now_over fs (placed g old.stable)) (sym frames))
+      (ap (λ (fs : List (Option Frame)). now_over fs (placed g old.stable)) (sym frames)) (λ place low high i. g.image (sym stable i).world place)
 
-  pub loaded_keeps : (old new : Cache W) (cached : IsCached g old) (i : ℕ) (p : PageNo) (page : Page) → IsPool old.pool
-      → g.image new.stable.world ≡ g.image old.stable.world → new.stable.log ≡ old.stable.log → KeepsShape g old.stable new.stable
-      → IsLoading old.pool.frames (placed g old.stable) i p page → is_pinned (frame_at old.pool i) ≡ false → new.pool ≡ loaded old.pool i p page → KeepsCached g old new cached.file.batches
-  loaded_keeps old new cached i p page kept image log shape l flag pool =
+  -- the file was read, and nothing else
+  pub stays_read : (old : Cache W) (read : Stable W) (cached : IsCached g old) → g.image read.world ≡ g.image old.stable.world → read.log ≡ old.stable.log → KeepsShape old.stable read
+      → StaysCached g old (record old { stable = read }) cached.file.batches
+  stays_read old read cached image log shape =
+      stays_same old (record old { stable = read }) cached (file_same old.stable read cached.file image log shape) (ap area image) cached.clean (λ place out. out) refl (λ place low high i. sym image i place)
+
+  -- a page was read into a frame
+  pub stays_loaded : (old new : Cache W) (cached : IsCached g old) (i : ℕ) (p : PageNo) (page : Page) → IsPool old.pool
+      → g.image new.stable.world ≡ g.image old.stable.world → new.stable.log ≡ old.stable.log → KeepsShape old.stable new.stable
+      → IsLoading old.pool.frames (placed g old.stable) i p page → is_pinned (frame_at old.pool i) ≡ false → new.pool ≡ loaded old.pool i p page → StaysCached g old new cached.file.batches
+  stays_loaded old new cached i p page kept image log shape l flag pool =
       let apart = pool_apart old.pool kept in
       let frames : set old.pool.frames i (Some (fresh_frame p page)) ≡ new.pool.frames = sym (ap (λ (s : PoolState). s.frames) pool) in
-      cached_same old new cached (file_same old.stable new.stable cached.file image log shape) (ap area image)
+      stays_same old new cached (file_same old.stable new.stable cached.file image log shape) (ap area image)
       (subst (λ (fs : List (Option Frame)). AreClean fs (placed g old.stable)) frames (loaded_clean old.pool.frames (placed g old.stable) i p page cached.clean l))
       (within_same (pinned_places old.pool.frames) (pinned_places new.pool.frames) (ap pinned_places (sym frames) ∙ unpinned_set old.pool.frames i (fresh_frame p page) l.below flag refl))
       (ap (λ (fs : List (Option Frame)). now_over fs (placed g old.stable)) (sym frames) ∙ loaded_now old.pool.frames (placed g old.stable) i p page apart cached.clean l)
-
-  -- the page in a frame was pinned
-  pub pinned_keeps : (old new : Cache W) (cached : IsCached g old) (i : ℕ) (f : Frame) → frame_at old.pool i ≡ Some f → new.stable ≡ old.stable → new.pool ≡ with_frame old.pool i (λ h. record h { pinned = true })
-      → KeepsCached g old new cached.file.batches
-  pinned_keeps old new cached i f e stable pool =
-      let pin : Frame → Frame = λ h. record h { pinned = true } in
-      let place = placed g old.stable in
-      let frames : edited old.pool.frames i pin ≡ new.pool.frames = sym (ap (λ (s : PoolState). s.frames) pool) in
-      cached_same old new cached (subst (λ (s : Stable W). HasBatches g s cached.file.batches) (sym stable) (cached.file, refl)) (ap (placed g) stable)
-      (subst (λ (fs : List (Option Frame)). AreClean fs place) frames (pinned_clean old.pool.frames place i f true e cached.clean))
-      (λ spot out.
-      let its : (page_places f.page.0 spot || pinned_places old.pool.frames spot) ≡ false = (λ j. sym (pinned_one old.pool.frames i f e) j spot) ∙ (λ j. pinned_places (frames j) spot) ∙ out in
-      not_second (page_places f.page.0 spot) (pinned_places old.pool.frames spot) its)
-      (ap (λ (fs : List (Option Frame)). now_over fs place) (sym frames) ∙ flagged_now old.pool.frames place i f pin e refl)
+      (λ place low high j. sym image j place)
 
   -- bytes of a page were changed, where the log or a pinned page covers them
   pub changed_covered : (old new : Cache W) (cached : IsCached g old) (i at : ℕ) (bytes : List ℕ) (f : Frame) → IsPool old.pool → frame_at old.pool i ≡ Some f → at + length bytes ≤ 4096
       → Within (in_range (f.page.0 * page_bytes + at) (length bytes)) (either (cover (ranges_of cached.file.batches)) (pinned_places old.pool.frames)) → new.stable ≡ old.stable → new.pool ≡ changed old.pool i at bytes
-      → (after : IsCached g new) × (after.file.batches ≡ cached.file.batches) × (flushed g new.stable cached.file.batches ≡ flushed g old.stable cached.file.batches) × (now g new ≡ put (now g old) (f.page.0 * page_bytes + at) bytes)
+      → CachesAs g old new cached.file.batches (put (now g old) (f.page.0 * page_bytes + at) bytes)
   changed_covered old new cached i at bytes f kept e fits within stable pool =
       let place = placed g old.stable in
       let frames : edited old.pool.frames i (overwrite at bytes) ≡ new.pool.frames = sym (ap (λ (s : PoolState). s.frames) pool) in
@@ -144,29 +147,25 @@ module _ {W : Type 0} (g : Ghosts W) where
       let log = cover (ranges_of cached.file.batches) in
       let covered : Agree (either log (pinned_places old.pool.frames)) place (put (now g old) start bytes) = λ spot out.
       cached.covered spot out ∙ sym (put_outside (now g old) start bytes spot (within spot out)) in
-      let made : IsCached g new = record {
-        file = has.0;
-        clean = subst (AreClean new.pool.frames) (sym same) (subst (λ (fs : List (Option Frame)). AreClean fs place) frames (changed_clean old.pool.frames place i at bytes f e cached.clean));
-        covered = subst (λ (batches : List (List Transaction)). Agree (either (cover (ranges_of batches)) (pinned_places new.pool.frames)) (placed g new.stable) (now g new)) (sym has.1)
-            (covered_same log (pinned_places old.pool.frames) (pinned_places new.pool.frames) place (put (now g old) start bytes) (placed g new.stable) (now g new)
-            (within_same (pinned_places old.pool.frames) (pinned_places new.pool.frames) pins) same contents covered);
-      } in
-      (made, has.1, ap (puts (ranges_of cached.file.batches)) same, contents)
-
-  -- bytes of a pinned page were changed
-  pub changed_cached : (old new : Cache W) (cached : IsCached g old) (i at : ℕ) (bytes : List ℕ) (f : Frame) → IsPool old.pool → frame_at old.pool i ≡ Some f → f.pinned ≡ true → at + length bytes ≤ 4096
-      → new.stable ≡ old.stable → new.pool ≡ changed old.pool i at bytes
-      → (after : IsCached g new) × (after.file.batches ≡ cached.file.batches) × (flushed g new.stable cached.file.batches ≡ flushed g old.stable cached.file.batches) × (now g new ≡ put (now g old) (f.page.0 * page_bytes + at) bytes)
-  changed_cached old new cached i at bytes f kept e flag fits stable pool =
-      let log = cover (ranges_of cached.file.batches) in
-      changed_covered old new cached i at bytes f kept e fits
-      (λ spot out. range_outside f.page.0 at (length bytes) spot fits (out_of_pinned old.pool.frames i f e flag spot (not_second (log spot) (pinned_places old.pool.frames spot) out)))
-      stable pool
+      record {
+        cached = record {
+          file = has.0;
+          clean = subst (AreClean new.pool.frames) (sym same) (subst (λ (fs : List (Option Frame)). AreClean fs place) frames (changed_clean old.pool.frames place i at bytes f e cached.clean));
+          covered = subst (λ (batches : List (List Transaction)). Agree (either (cover (ranges_of batches)) (pinned_places new.pool.frames)) (placed g new.stable) (now g new)) (sym has.1)
+              (covered_same log (pinned_places old.pool.frames) (pinned_places new.pool.frames) place (put (now g old) start bytes) (placed g new.stable) (now g new)
+              (within_same (pinned_places old.pool.frames) (pinned_places new.pool.frames) pins) same contents covered);
+        };
+        same = has.1;
+        stands = ap (puts (ranges_of cached.file.batches)) same;
+        contents_are = contents;
+      }
 
   -- a batch of pages was written in place
-  pub gathered_keeps : (old new : Cache W) (cached : IsCached g old) (batch : List (PageNo × Page)) → HasBatches g new.stable cached.file.batches → placed g new.stable ≡ puts (map whole_page batch) (placed g old.stable)
-      → IsGathered old.pool.frames new.pool.frames (placed g old.stable) (cover (ranges_of cached.file.batches)) batch → KeepsCached g old new cached.file.batches
-  gathered_keeps old new cached batch has place gathered =
+  pub stays_gathered : (old new : Cache W) (cached : IsCached g old) (batch : List (PageNo × Page)) → HasWritten g (map whole_page batch) cached.file.batches old.stable new.stable
+      → IsGathered old.pool.frames new.pool.frames (placed g old.stable) (cover (ranges_of cached.file.batches)) batch → StaysCached g old new cached.file.batches
+  stays_gathered old new cached batch done gathered =
+      let has = done.batches_are in
+      let place = done.placed_are in
       let log = ranges_of cached.file.batches in
       let contents : now g new ≡ now g old = ap (now_over new.pool.frames) place ∙ gathered.contents in
       let made : IsCached g new = record {
@@ -177,36 +176,13 @@ module _ {W : Type 0} (g : Ghosts W) where
             let before : either (cover log) (pinned_places old.pool.frames) spot ≡ false = (λ i. cover log spot || sym gathered.pins i spot) ∙ out in
             (λ i. place i spot) ∙ sym (gathered.agree spot (not_first (cover log spot) (pinned_places old.pool.frames spot) before)) ∙ cached.covered spot before ∙ (λ i. sym contents i spot));
       } in
-      (made, has.1, ap (puts log) place ∙ mixes log (placed g old.stable) (puts (map whole_page batch) (placed g old.stable)) gathered.agree, contents)
-
-  -- one call behind another
-  pub shape_same : (s : Stable W) → KeepsShape g s s
-  shape_same s = record { pages = refl; fanout = refl; told = refl; printer = refl }
-
-  pub shape_twice : (old mid new : Stable W) → KeepsShape g old mid → KeepsShape g mid new → KeepsShape g old new
-  shape_twice old mid new first second = record {
-    pages = second.pages ∙ first.pages;
-    fanout = second.fanout ∙ first.fanout;
-    told = second.told ∙ first.told;
-    printer = second.printer ∙ first.printer;
-  }
-
-  pub keeps_twice : (old mid new : Cache W) (batches : List (List Transaction)) → KeepsCached g old mid batches → ((cached : IsCached g mid) → KeepsCached g mid new cached.file.batches) → KeepsCached g old new batches
-  keeps_twice old mid new batches first second =
-      let next = second first.0 in
-      (next.0, next.1 ∙ first.1, subst (λ (bs : List (List Transaction)). flushed g new.stable bs ≡ flushed g mid.stable bs) first.1 next.2 ∙ first.2, next.3 ∙ first.3)
-
-  pub stops_twice : (old mid new : Cache W) (batches : List (List Transaction)) → KeepsCached g old mid batches → KeepsShape g old.stable mid.stable
-      → StandsOnly g old.stable.world mid.stable.world (λ contents. contents ≡ flushed g old.stable batches)
-      → ((cached : IsCached g mid) → StandsOnly g mid.stable.world new.stable.world (λ contents. contents ≡ flushed g mid.stable cached.file.batches))
-      → StandsOnly g old.stable.world new.stable.world (λ contents. contents ≡ flushed g old.stable batches)
-  stops_twice old mid new batches keeps shape first second =
-      chains g.clock g.left_since old.stable.world mid.stable.world new.stable.world _ first
-      (widens g.clock g.left_since mid.stable.world new.stable.world _ _ (second keeps.0)
-      (λ left told has. ((has.0.0, has.0.1, has.0.2 ∙ ap (flushed g mid.stable) keeps.1 ∙ keeps.2), has.1 ∙ shape.told)))
-
-  -- no call at all
-  pub stands_still : (s : Stable W) (file : IsFile g s) → Quiet (g.pending s.world) → ((left : Image) (told : Option (List ℕ)) → g.left_since s.world (g.clock s.world) left told → Agree (g.pending s.world) (g.image s.world) left × (told ≡ g.printed s.world))
-      → StandsOnly g s.world s.world (λ contents. contents ≡ flushed g s file.batches)
-  stands_still s file quiet only =
-      reads_only g s file s.world (started g.clock g.left_since s.world _ (λ left told since. let now = only left told since in ((λ place out. now.0 place (quiet place)), now.1)))
+      record {
+        after = record {
+          cached = made;
+          same = has.1;
+          stands = ap (puts log) place ∙ mixes log (placed g old.stable) (puts (map whole_page batch) (placed g old.stable)) gathered.agree;
+          contents_are = contents;
+        };
+        pages = subst (ArePagesOf (placed g old.stable) (now g old)) (sym place) gathered.pages;
+        log = done.log_bytes_are;
+      }

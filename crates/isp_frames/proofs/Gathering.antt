@@ -10,13 +10,13 @@ use Rattle.isp_format.specs.Doublewrite.{AreDistinct}
 use Rattle.isp_format.specs.Ranges.{Contents, Range, puts}
 use Rattle.isp_format.proofs.Puts.{puts_append}
 use Rattle.isp_frames.specs.Gathered.{AreCovered, IsCleanPage, IsGathered, IsTaken}
-use Rattle.isp_frames.specs.Held.{AreClean, IsCleaned, cleaned_at, now_over, numbered, pinned_places}
+use Rattle.isp_frames.specs.Held.{AreApart, AreClean, IsCleaned, cleaned_at, now_over, numbered, pinned_places}
 use Rattle.isp_page.specs.declared.page.Page.{Page}
-use Rattle.isp_page.specs.declared.page.PageNo.{PageNo}
+use Rattle.isp_base.specs.declared.page_no.PageNo.{PageNo}
 use Rattle.isp_pool.specs.declared.frames.Frame.{Frame}
 use Rattle.isp_pool.specs.Frames.{IsPool, PoolState, edited, frame_at, frame_in, is_cleanable, is_dirty, is_pinned, one_if, page_of as page_in}
 use Rattle.isp_pool.proofs.StateLaws.{dirty_after, none_dirty}
-use Rattle.isp_frames.proofs.NowLaws.{AreApart, cleaned_clean, edited_is, flagged_now, frame_below, in_place, in_place_now, number_is, pool_apart, set_cases, some_is}
+use Rattle.isp_frames.proofs.NowLaws.{cleaned_clean, edited_is, flagged_now, frame_below, in_place, in_place_now, number_is, pool_apart, set_cases, some_is}
 use Rattle.isp_frames.proofs.KeptLaws.{cleaned_below, cleaned_none, cleaned_one, cleaned_twice, kept_pinned}
 use Rattle.isp_frames.proofs.PageLaws.{pages_in_place, pages_same}
 use Rattle.isp_frames.proofs.PinLaws.{covered_in_place, kept_pin}

@@ -6,13 +6,12 @@ use Rattle.std.proofs.lemmas.List.{length-set}
 use Rattle.std.proofs.lemmas.List.Sums.{sum_by-cons}
 use Rattle.isp_format.specs.Ranges.{Contents, page_bytes}
 use Rattle.std.specs.Prelude.{slice_index}
-use Rattle.isp_frames.specs.Held.{AreBelow, IsCleaned, but_dirty, cleaned_at, now_over, page_places, pinned_places}
+use Rattle.isp_frames.specs.Held.{AreApart, AreBelow, IsCleaned, but_dirty, cleaned_at, now_over, page_places}
 use Rattle.isp_page.specs.declared.page.Page.{Page}
-use Rattle.isp_page.specs.declared.page.PageNo.{PageNo}
+use Rattle.isp_base.specs.declared.page_no.PageNo.{PageNo}
 use Rattle.isp_pool.specs.declared.frames.Frame.{Frame}
 use Rattle.isp_pool.specs.Frames.{PoolState, edited, frame_at, frame_in, is_dirty, is_pinned, one_if, page_of as page_in}
-use Rattle.isp_frames.proofs.NowLaws.{AreApart, edited_is, frame_below, is_now, now_beside, now_held, set_away, set_here, some_is}
-use Rattle.isp_frames.proofs.PinLaws.{ArePinnedIn, pinned_same}
+use Rattle.isp_frames.proofs.NowLaws.{edited_is, frame_below, is_now, now_beside, now_held, set_away, set_here, some_is}
 
 abbrev clean_flag : Frame → Frame
 clean_flag f = record f { dirty = false }
@@ -86,15 +85,6 @@ kept_now new old placed kept apart =
           (λ j. page_places (sym is.page j).0 place) ∙ out i is.frame is.there);
     })
 
-kept_in : (new old : List (Option Frame)) → AreKept new old → ArePinnedIn new old
-kept_in new old kept = λ place w.
-    let was = kept_was new old kept w.at w.frame w.there in
-    record { at = w.at; frame = was.frame; there = was.there; pinned = was.pinned ∙ w.pinned; has = (λ j. page_places (was.page j).0 place) ∙ w.has }
-
--- and the pinned pages
-pub kept_pins : (new old : List (Option Frame)) → AreKept new old → pinned_places new ≡ pinned_places old
-kept_pins new old kept = pinned_same new old (kept_in new old kept) (kept_in old new (λ i. sym (kept i)))
-
 -- frames that are alike by some test are as many
 pub count_same : (test : Option Frame → Bool) (new old : List (Option Frame)) → length new ≡ length old → ((i : ℕ) → test (frame_in new i) ≡ test (frame_in old i)) → count_by test new ≡ count_by test old
 count_same test [] [] long same = refl
@@ -137,12 +127,6 @@ cleaned_below old new pages cleaned below = λ i f e.
 
 pub cleaned_unpinned : (old new : PoolState) → IsCleaned old new → ((i : ℕ) → is_pinned (frame_at old i) ≡ false) → (i : ℕ) → is_pinned (frame_at new i) ≡ false
 cleaned_unpinned old new cleaned unpinned i = kept_pinned (frame_at new i) (frame_at old i) (cleaned.frames i) ∙ unpinned i
-
-pub cleaned_now : (old new : PoolState) (placed : Contents) → IsCleaned old new → AreApart old.frames → now_over new.frames placed ≡ now_over old.frames placed
-cleaned_now old new placed cleaned apart = kept_now new.frames old.frames placed cleaned.frames apart
-
-pub cleaned_pins : (old new : PoolState) → IsCleaned old new → pinned_places new.frames ≡ pinned_places old.frames
-cleaned_pins old new cleaned = kept_pins new.frames old.frames cleaned.frames
 
 pub cleaned_count : (old new : PoolState) → IsCleaned old new → count_by is_pinned new.frames ≡ count_by is_pinned old.frames
 cleaned_count old new cleaned = count_same is_pinned new.frames old.frames cleaned.count (λ i. kept_pinned (frame_at new i) (frame_at old i) (cleaned.frames i))

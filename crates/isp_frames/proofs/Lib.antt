@@ -6,3 +6,5 @@ pub mod HeldLaws
 pub mod Gathering
 pub mod CacheLaws
 pub mod UseOrder
+pub mod Staying
+pub mod Settling

@@ -11,18 +11,14 @@ use Rattle.isp_format.proofs.Places.{above, before_end, below, from_start, insid
 use Rattle.isp_format.proofs.Puts.{absorbs}
 use Rattle.isp_format.proofs.Slices.{put_inside, put_outside, slice_agree, slice_beside, slice_put, length-slice}
 use Rattle.isp_page.specs.declared.page.Page.{Page}
-use Rattle.isp_page.specs.declared.page.PageNo.{PageNo}
+use Rattle.isp_base.specs.declared.page_no.PageNo.{PageNo}
 use Rattle.isp_pool.specs.declared.frames.Frame.{Frame}
 use Rattle.isp_pool.specs.Frames.{IsPool, PoolState, edited, frame_in, fresh_frame, is_dirty, is_held, overwritten, page_of as page_in}
 use Rattle.isp_pool.proofs.PoolLaws.{held_below, length-overwritten}
 use Rattle.isp_pool.proofs.StateLaws.{before_written, behind_written, in_written}
-use Rattle.isp_frames.specs.Held.{AreClean, held_pages, now_over, page_places, whole_frame}
+use Rattle.isp_frames.specs.Held.{AreApart, AreClean, held_pages, now_over, page_places, whole_frame}
 
--- what is used of a pool here: no page stands in two frames, and a page has its bytes
-pub record AreApart (frames : List (Option Frame)) : Type 0 where
-  pub distinct : (i j : ℕ) (p : PageNo) → page_in (frame_in frames i) ≡ Some p → page_in (frame_in frames j) ≡ Some p → i ≡ j
-  pub whole : (i : ℕ) (f : Frame) → frame_in frames i ≡ Some f → length f.content.bytes ≡ 4096
-
+-- what is used of a pool here
 pub pool_apart : (s : PoolState) → IsPool s → AreApart s.frames
 pool_apart s k = record { distinct = k.distinct; whole = k.whole }
 
@@ -58,6 +54,7 @@ range_outside p at size place fits isnt =
 
 -- a byte of a page
 pub page_byte : (contents : Contents) (p place : ℕ) → page_places p place ≡ true → slice_index (page_of contents p) (place - p * page_bytes) ≡ contents place
+unfolding page_of
 page_byte contents p place is =
     let start = from_start (p * page_bytes) page_bytes place is in
     let back : p * page_bytes + (place - p * page_bytes) ≡ place = omega arith in
@@ -164,6 +161,7 @@ is_now frames placed contents apart n = λ i place. at place i
 -- whole pages
 
 pub now_page : (frames : List (Option Frame)) (placed : Contents) → AreApart frames → (i : ℕ) (f : Frame) → frame_in frames i ≡ Some f → page_of (now_over frames placed) f.page.0 ≡ f.content.bytes
+unfolding page_of
 now_page frames placed apart i f e =
     let at = f.page.0 * page_bytes in
     let bytes = f.content.bytes in
@@ -175,18 +173,21 @@ now_page frames placed apart i f e =
     ∙ ap (slice (put placed at bytes) at) size
     ∙ slice_put placed at bytes
 
-pub now_elsewhere : (frames : List (Option Frame)) (placed : Contents) → AreApart frames → (p : PageNo) → ((k : ℕ) → page_in (frame_in frames k) ≢ Some p) → page_of (now_over frames placed) p.0 ≡ page_of placed p.0
-now_elsewhere frames placed apart p absent =
-    let at = p.0 * page_bytes in
-    slice_agree (now_over frames placed) placed at page_bytes
-    (λ place low high. now_beside frames placed apart place (absent_beside frames p absent place (inside at page_bytes place low high)))
-
 -- a frame that is clean
 pub now_clean : (frames : List (Option Frame)) (placed : Contents) → AreApart frames → AreClean frames placed → (i : ℕ) (f : Frame) → frame_in frames i ≡ Some f → f.dirty ≡ false → (place : ℕ) → page_places f.page.0 place ≡ true → now_over frames placed place ≡ placed place
 now_clean frames placed apart clean i f e d place is =
     now_held frames placed apart i f e place is
     ∙ ap (λ (bytes : List ℕ). slice_index bytes (place - f.page.0 * page_bytes)) (clean i f e d)
     ∙ page_byte placed f.page.0 place is
+
+-- where all frames are clean the contents now are the pages in their places
+pub now_placed : (frames : List (Option Frame)) (placed : Contents) → AreApart frames → AreClean frames placed → ((i : ℕ) → is_dirty (frame_in frames i) ≡ false) → now_over frames placed ≡ placed
+now_placed frames placed apart clean none = λ i place. at place i
+  where
+    at : (place : ℕ) → now_over frames placed place ≡ placed place
+    at place =
+        ⊎_elim (λ w. now_clean frames placed apart clean w.at w.frame w.there (ap is_dirty (sym w.there) ∙ none w.at) place w.has)
+        (λ out. now_beside frames placed apart place out) (where_is frames place)
 
 -- frames of which one was put into another's room
 
@@ -250,6 +251,7 @@ pub record IsLoading (frames : List (Option Frame)) (placed : Contents) (i : ℕ
   pub read : page.bytes ≡ page_of placed p.0
 
 loaded_fits : (frames : List (Option Frame)) (placed : Contents) (i : ℕ) (p : PageNo) (page : Page) → IsLoading frames placed i p page → IsFitting frames i (fresh_frame p page)
+unfolding page_of
 loaded_fits frames placed i p page l = record {
   below = l.below;
   alone = λ k h away e same. l.absent k (ap page_in e ∙ ap Some (number_is h.page p same));
@@ -316,11 +318,6 @@ changed_long : (frames : List (Option Frame)) (i at : ℕ) (bytes : List ℕ) (f
 changed_long frames i at bytes f apart e fits =
     let long : length f.content.bytes ≡ 4096 = apart.whole i f e in
     length-overwritten f.content.bytes at bytes (omega arith) ∙ long
-
-pub changed_apart : (frames : List (Option Frame)) (i at : ℕ) (bytes : List ℕ) (f : Frame) → AreApart frames → frame_in frames i ≡ Some f → at + length bytes ≤ 4096 → AreApart (edited frames i (overwrite at bytes))
-changed_apart frames i at bytes f apart e fits =
-    subst AreApart (sym (edited_is frames i f (overwrite at bytes) e))
-    (set_apart frames i (overwrite at bytes f) apart (same_fits frames i f (overwrite at bytes f) apart e refl (changed_long frames i at bytes f apart e fits)))
 
 pub changed_clean : (frames : List (Option Frame)) (placed : Contents) (i at : ℕ) (bytes : List ℕ) (f : Frame) → frame_in frames i ≡ Some f → AreClean frames placed → AreClean (edited frames i (overwrite at bytes)) placed
 changed_clean frames placed i at bytes f e clean =
@@ -396,11 +393,6 @@ pub flagged_now : (frames : List (Option Frame)) (placed : Contents) (i : ℕ) (
 flagged_now frames placed i f edit e same =
     ap (λ (fs : List (Option Frame)). now_over fs placed) (edited_is frames i f edit e) ∙ ap (λ (rs : List Range). puts rs placed) (same_pages frames i f (edit f) e same)
 
-pub flagged_apart : (frames : List (Option Frame)) (i : ℕ) (f : Frame) (edit : Frame → Frame) → AreApart frames → frame_in frames i ≡ Some f → (edit f).page ≡ f.page → (edit f).content ≡ f.content → AreApart (edited frames i edit)
-flagged_apart frames i f edit apart e page content =
-    subst AreApart (sym (edited_is frames i f edit e))
-    (set_apart frames i (edit f) apart (same_fits frames i f (edit f) apart e page (ap (λ (c : Page). length c.bytes) content ∙ apart.whole i f e)))
-
 -- whether it is pinned says nothing of whether it is clean
 pub pinned_clean : (frames : List (Option Frame)) (placed : Contents) (i : ℕ) (f : Frame) (b : Bool) → frame_in frames i ≡ Some f → AreClean frames placed → AreClean (edited frames i (λ h. record h { pinned = b })) placed
 pinned_clean frames placed i f b e clean =
@@ -435,6 +427,7 @@ pub slice_placed : (image : Contents) (at start size : ℕ) (bytes : List ℕ) �
 slice_placed image at start size bytes from long = (λ j. slice (put image at bytes) (from j) (long j)) ∙ slice_put image at bytes
 
 written_page : (placed : Contents) (f g : Frame) → g.page.0 ≡ f.page.0 → g.content.bytes ≡ f.content.bytes → length f.content.bytes ≡ 4096 → g.content.bytes ≡ page_of (in_place placed f) g.page.0
+unfolding page_of
 written_page placed f g page bytes long =
     let start : g.page.0 * page_bytes ≡ place_of (whole_frame f) = omega arith in
     bytes ∙ sym (slice_placed placed (place_of (whole_frame f)) (g.page.0 * page_bytes) page_bytes f.content.bytes start (sym long))
@@ -442,6 +435,7 @@ written_page placed f g page bytes long =
 -- and it is clean then
 pub cleaned_clean : (frames : List (Option Frame)) (placed : Contents) (i : ℕ) (f : Frame) → AreApart frames → frame_in frames i ≡ Some f → AreClean frames placed
     → AreClean (edited frames i (λ h. record h { dirty = false })) (in_place placed f)
+unfolding page_of
 cleaned_clean frames placed i f apart e clean =
     let edit : Frame → Frame = λ h. record h { dirty = false } in
     subst (λ (fs : List (Option Frame)). AreClean fs (in_place placed f)) (sym (edited_is frames i f edit e)) (λ k h there d.

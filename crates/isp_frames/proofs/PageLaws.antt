@@ -10,16 +10,16 @@ use Rattle.isp_format.specs.Ranges.{Contents, page_bytes, page_of, place_of, put
 use Rattle.isp_format.proofs.Places.{inside}
 use Rattle.isp_format.proofs.Slices.{slice_beside}
 use Rattle.isp_frames.specs.Cached.{now}
-use Rattle.isp_frames.specs.Held.{now_over, page_places, whole_frame}
+use Rattle.isp_frames.specs.Held.{AreApart, now_over, page_places, whole_frame}
 use Rattle.isp_frames.specs.declared.cache.Cache.{Cache}
 use Rattle.isp_page.specs.declared.page.Page.{Page}
-use Rattle.isp_page.specs.declared.page.PageNo.{PageNo}
+use Rattle.isp_base.specs.declared.page_no.PageNo.{PageNo}
 use Rattle.isp_pool.specs.declared.frames.Frame.{Frame}
 use Rattle.isp_pool.specs.Frames.{frame_in}
 use Rattle.isp_stable.specs.File.{ArePagesOf, IsFile, LaysOnly, placed}
 use Rattle.isp_stable.specs.declared.stable.Stable.{Stable}
 use Rattle.isp_stable.proofs.Files.{reads_pages}
-use Rattle.isp_frames.proofs.NowLaws.{AreApart, in_place, now_page, range_is, same_page, slice_placed}
+use Rattle.isp_frames.proofs.NowLaws.{in_place, now_page, range_is, same_page, slice_placed}
 
 -- contents that are the first of the two
 pub pages_same : (one other contents : Contents) → contents ≡ one → ArePagesOf one other contents
@@ -32,6 +32,7 @@ pages_either one other more contents all which =
 
 -- the page of a frame put whole over the one that stands in its place
 its_page : (frames : List (Option Frame)) (before : Contents) → AreApart frames → (i : ℕ) (f : Frame) → frame_in frames i ≡ Some f → (page : ℕ) → page ≡ f.page.0 → page_of (in_place before f) page ≡ page_of (now_over frames before) page
+unfolding page_of
 its_page frames before apart i f e page mine =
     let start : page * page_bytes ≡ place_of (whole_frame f) = omega (arith, mine) in
     slice_placed before (place_of (whole_frame f)) (page * page_bytes) page_bytes f.content.bytes start (sym (apart.whole i f e))
@@ -40,6 +41,7 @@ its_page frames before apart i f e page mine =
 
 -- the others stay
 other_page : (before : Contents) (f : Frame) → length f.content.bytes ≡ 4096 → (page : ℕ) → (page ≡ f.page.0 → ⊥) → page_of (in_place before f) page ≡ page_of before page
+unfolding page_of
 other_page before f long page away =
     slice_beside before (place_of (whole_frame f)) f.content.bytes (page * page_bytes) page_bytes
     (λ place low high. range_is f long place ∙ elsewhere place (inside (page * page_bytes) page_bytes place low high))
@@ -75,7 +77,7 @@ module _ {W : Type 0} (g : Ghosts W) where
       (λ left told has. pages_either (placed g s) other (puts (map whole_page batch) (placed g s)) (laid left) all has)
 
   -- no call at all
-  pub lays_still : (s : Stable W) (other : Contents) → IsFile g s → Quiet (g.pending s.world) → ((left : Image) (told : Option (List ℕ)) → g.left_since s.world (g.clock s.world) left told → Agree (g.pending s.world) (g.image s.world) left × (told ≡ g.printed s.world))
+  pub lays_still : (s : Stable W) (other : Contents) → IsFile g s → Quiet (g.pending s.world) → ((left : Image) (told : List ℕ) → g.left_since s.world (g.clock s.world) left told → Agree (g.pending s.world) (g.image s.world) left × (told ≡ g.printed s.world))
       → LaysOnly g s.world s.world (ArePagesOf (placed g s) other)
   lays_still s other file quiet only =
       lays_read s other s.world

@@ -4,14 +4,14 @@ use Rattle.std.specs.List.{count_by}
 use Rattle.std.specs.Prelude.{slice_index}
 use Rattle.std.proofs.lemmas.Bool.{false≢true, cases_eq, cases_Bool, or_cases}
 use Rattle.std.proofs.lemmas.List.Sums.{sum_by-set, sum_by-cons}
-use Rattle.isp_disk.specs.Moments.{Agree, Region, either, no_place}
+use Rattle.isp_disk.specs.Moments.{Agree, Region, either}
 use Rattle.isp_format.specs.Ranges.{Contents, page_bytes, place_of}
 use Rattle.isp_format.proofs.Places.{neither}
 use Rattle.isp_format.proofs.Slices.{put_inside, put_outside}
 use Rattle.isp_pool.specs.declared.frames.Frame.{Frame}
-use Rattle.isp_pool.specs.Frames.{edited, frame_in, is_pinned, one_if}
-use Rattle.isp_frames.specs.Held.{now_over, page_places, pinned_places, whole_frame}
-use Rattle.isp_frames.proofs.NowLaws.{AreApart, edited_is, flagged_apart, frame_below, in_place, now_held, one_frame, range_is, same_page, set_away, set_cases, set_here, some_is}
+use Rattle.isp_pool.specs.Frames.{frame_in, is_pinned, one_if}
+use Rattle.isp_frames.specs.Held.{AreApart, now_over, page_places, pinned_places, whole_frame}
+use Rattle.isp_frames.proofs.NowLaws.{frame_below, in_place, now_held, one_frame, range_is, same_page, set_away, set_cases, set_here, some_is}
 
 -- one frame more
 abbrev pins : Bool → Region → Region → Region
@@ -70,10 +70,6 @@ pinned_there (Some g ∷ frames) place zero f e flag is =
 pinned_there (Some g ∷ frames) place (suc i) f e flag is =
     (λ i. pins_are g frames i place) ∙ more_places g.pinned (page_places g.page.0) (pinned_places frames) place (pinned_there frames place i f e flag is)
 
-pub out_of_pinned : (frames : List (Option Frame)) (i : ℕ) (f : Frame) → frame_in frames i ≡ Some f → f.pinned ≡ true → (place : ℕ) → pinned_places frames place ≡ false → page_places f.page.0 place ≡ false
-out_of_pinned frames i f e flag place out =
-    ⊎_elim (λ is. absurd (false≢true (sym out ∙ pinned_there frames place i f e flag is))) (λ isnt. isnt) (cases_Bool (page_places f.page.0 place))
-
 -- two lists of frames whose pinned pages are the same
 abbrev pub ArePinnedIn : List (Option Frame) → List (Option Frame) → Type 0
 ArePinnedIn one other = (place : ℕ) → IsPinnedAt one place → IsPinnedAt other place
@@ -129,15 +125,6 @@ kept_pin frames i f g e page pin =
     })
     (λ away. record { at = w.at; frame = w.frame; there = set_away frames i g w.at away ∙ w.there; pinned = w.pinned; has = w.has }) (cases_eq w.at i))
 
--- no frame is pinned
-pub none_pinned : (frames : List (Option Frame)) → ((i : ℕ) → is_pinned (frame_in frames i) ≡ false) → pinned_places frames ≡ no_place
-none_pinned frames none = λ i place. at place i
-  where
-    at : (place : ℕ) → pinned_places frames place ≡ false
-    at place =
-        ⊎_elim (λ is. let w = pinned_by frames place is in absurd (false≢true (sym (none w.at) ∙ ap is_pinned w.there ∙ w.pinned)))
-        (λ isnt. isnt) (cases_Bool (pinned_places frames place))
-
 -- the places of a page whose frame isn't pinned
 pub unpinned_page : (frames : List (Option Frame)) → AreApart frames → (i : ℕ) (f : Frame) → frame_in frames i ≡ Some f → f.pinned ≡ false → (place : ℕ) → page_places f.page.0 place ≡ true → pinned_places frames place ≡ false
 unpinned_page frames apart i f e flag place is =
@@ -146,81 +133,6 @@ unpinned_page frames apart i f e flag place is =
     let same : w.at ≡ i = one_frame frames apart w.at i w.frame f w.there e (same_page w.frame.page.0 f.page.0 place w.has is) in
     absurd (false≢true (sym flag ∙ ap is_pinned (sym e) ∙ ap (λ n. is_pinned (frame_in frames n)) (sym same) ∙ ap is_pinned w.there ∙ w.pinned)))
     (λ none. none) (cases_Bool (pinned_places frames place))
-
--- a frame was pinned
-pub pinned_one : (frames : List (Option Frame)) (i : ℕ) (f : Frame) → frame_in frames i ≡ Some f → pinned_places (edited frames i (λ h. record h { pinned = true })) ≡ either (page_places f.page.0) (pinned_places frames)
-pinned_one frames i f e = λ j place. ((λ k. pinned_places (edited_is frames i f pin e k) place) ∙ at place) j
-  where
-    pin : Frame → Frame
-    pin h = record h { pinned = true }
-
-    g : Frame
-    g = pin f
-
-    lt : i < length frames
-    lt = frame_below frames i f e
-
-    from_either : (place : ℕ) (b : Bool) → page_places f.page.0 place ≡ b → (b || pinned_places frames place) ≡ true → IsPinnedAt (set frames i (Some g)) place
-    from_either place true its some = record { at = i; frame = g; there = set_here frames i g lt; pinned = refl; has = its }
-    from_either place false isnt some =
-        let w = pinned_by frames place some in
-        ⊎_elim (λ same.
-        let it : f ≡ w.frame = some_is f w.frame (sym e ∙ ap (frame_in frames) (sym same) ∙ w.there) in
-        absurd (false≢true (sym isnt ∙ ap (λ (x : Frame). page_places x.page.0 place) it ∙ w.has)))
-        (λ away. record { at = w.at; frame = w.frame; there = set_away frames i g w.at away ∙ w.there; pinned = w.pinned; has = w.has }) (cases_eq w.at i)
-
-    to_either : (place : ℕ) → IsPinnedAt (set frames i (Some g)) place → (page_places f.page.0 place || pinned_places frames place) ≡ true
-    to_either place w =
-        ⊎_elim (λ mine. (λ k. (ap (λ (x : Frame). page_places x.page.0 place) mine.1 ∙ w.has) k || pinned_places frames place))
-        (λ other. second (page_places f.page.0 place) (pinned_places frames place) (pinned_there frames place w.at w.frame other.1 w.pinned w.has))
-        (set_cases frames i g lt w.at w.frame w.there)
-      where
-        second : (b c : Bool) → c ≡ true → (b || c) ≡ true
-        second true c is = refl
-        second false c is = is
-
-    at : (place : ℕ) → pinned_places (set frames i (Some g)) place ≡ (page_places f.page.0 place || pinned_places frames place)
-    at place =
-        same_bit (pinned_places (set frames i (Some g)) place) (page_places f.page.0 place || pinned_places frames place)
-        (λ is. to_either place (pinned_by (set frames i (Some g)) place is))
-        (λ is. let w = from_either place (page_places f.page.0 place) refl is in pinned_there (set frames i (Some g)) place w.at w.frame w.there w.pinned w.has)
-
--- a frame was unpinned: of its page no place is pinned, and of the others the same
-pub unpinned_its : (frames : List (Option Frame)) → AreApart frames → (i : ℕ) (f : Frame) → frame_in frames i ≡ Some f → (place : ℕ) → page_places f.page.0 place ≡ true → pinned_places (edited frames i (λ h. record h { pinned = false })) place ≡ false
-unpinned_its frames apart i f e place is =
-    let unpin : Frame → Frame = λ h. record h { pinned = false } in
-    unpinned_page (edited frames i unpin) (flagged_apart frames i f unpin apart e refl refl) i (unpin f)
-    (ap (λ (fs : List (Option Frame)). frame_in fs i) (edited_is frames i f unpin e) ∙ set_here frames i (unpin f) (frame_below frames i f e)) refl place is
-
-pub unpinned_others : (frames : List (Option Frame)) (i : ℕ) (f : Frame) → frame_in frames i ≡ Some f → (place : ℕ) → page_places f.page.0 place ≡ false → pinned_places (edited frames i (λ h. record h { pinned = false })) place ≡ pinned_places frames place
-unpinned_others frames i f e place isnt = (λ k. pinned_places (edited_is frames i f unpin e k) place) ∙ at
-  where
-    unpin : Frame → Frame
-    unpin h = record h { pinned = false }
-
-    g : Frame
-    g = unpin f
-
-    lt : i < length frames
-    lt = frame_below frames i f e
-
-    there : IsPinnedAt (set frames i (Some g)) place → IsPinnedAt frames place
-    there w =
-        ⊎_elim (λ mine. absurd (false≢true (ap (λ (x : Frame). x.pinned) mine.1 ∙ w.pinned)))
-        (λ other. record { at = w.at; frame = w.frame; there = other.1; pinned = w.pinned; has = w.has }) (set_cases frames i g lt w.at w.frame w.there)
-
-    back : IsPinnedAt frames place → IsPinnedAt (set frames i (Some g)) place
-    back w =
-        ⊎_elim (λ same.
-        let it : f ≡ w.frame = some_is f w.frame (sym e ∙ ap (frame_in frames) (sym same) ∙ w.there) in
-        absurd (false≢true (sym isnt ∙ ap (λ (x : Frame). page_places x.page.0 place) it ∙ w.has)))
-        (λ away. record { at = w.at; frame = w.frame; there = set_away frames i g w.at away ∙ w.there; pinned = w.pinned; has = w.has }) (cases_eq w.at i)
-
-    at : pinned_places (set frames i (Some g)) place ≡ pinned_places frames place
-    at =
-        same_bit (pinned_places (set frames i (Some g)) place) (pinned_places frames place)
-        (λ is. let w = there (pinned_by (set frames i (Some g)) place is) in pinned_there frames place w.at w.frame w.there w.pinned w.has)
-        (λ is. let w = back (pinned_by frames place is) in pinned_there (set frames i (Some g)) place w.at w.frame w.there w.pinned w.has)
 
 -- how many are pinned after one frame was written
 pub pinned_after : (frames : List (Option Frame)) (i : ℕ) (o : Option Frame) → i < length frames

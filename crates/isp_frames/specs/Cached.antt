@@ -1,13 +1,14 @@
--- A file whose pages are cached in frames.
-use Rattle.std.specs.Prelude.{◌≡◌, List}
-use Rattle.isp_disk.specs.Moments.{Agree, either}
+-- A file whose pages are cached in frames, and what calls on the frames leave of it.
+use Rattle.std.specs.Prelude.{◌≡◌, ◌≤◌, List, [], Result, OnOk, vec_capacity}
+use Rattle.isp_disk.specs.Moments.{Agree, Quiet, either}
 use Rattle.isp_disk.specs.declared.world.World.{Ghosts}
-use Rattle.isp_format.specs.Contents.{ranges_of}
-use Rattle.isp_format.specs.Log.{Transaction}
-use Rattle.isp_format.specs.Ranges.{Contents, cover}
-use Rattle.isp_frames.specs.Held.{AreClean, now_over, pinned_places}
+use Rattle.isp_format.specs.Contents.{StandsFor, ranges_of}
+use Rattle.isp_format.specs.Control.{fanout_in, pages_in}
+use Rattle.isp_format.specs.Log.{Transaction, log_bytes, log_place}
+use Rattle.isp_format.specs.Ranges.{Contents, SameIn, cover}
+use Rattle.isp_frames.specs.Held.{AreBelow, AreClean, NoneDirty, NonePinned, now_over, pinned_places}
 use Rattle.isp_frames.specs.declared.cache.Cache.{Cache}
-use Rattle.isp_stable.specs.File.{IsFile, flushed, placed}
+use Rattle.isp_stable.specs.File.{ArePagesOf, HasBatches, IsFile, KeepsStable, LaysOnly, StandsOnly, flushed, placed}
 
 module _ {W : Type 0} (g : Ghosts W) where
   -- the contents of all pages now
@@ -20,8 +21,62 @@ module _ {W : Type 0} (g : Ghosts W) where
     pub clean : AreClean s.pool.frames (placed g s.stable)
     pub covered : Agree (either (cover (ranges_of file.batches)) (pinned_places s.pool.frames)) (placed g s.stable) (now s)
 
-  -- it is one after a call, with the same log, standing for the same contents, and the contents now are the same
-  abbrev pub KeepsCached : (old new : Cache W) → List (List Transaction) → Type 0
-  KeepsCached old new batches =
-      (cached : IsCached new) × (cached.file.batches ≡ batches)
-      × (flushed g new.stable batches ≡ flushed g old.stable batches) × (now new ≡ now old)
+  -- between two calls: nothing is pending, and the frames hold pages of the file
+  pub record IsSteady (s : Cache W) : Type 0 where
+    pub quiet : Quiet (g.pending s.stable.world)
+    pub below : AreBelow s.stable.pages s.pool.frames
+    pub cached : g.tells → IsCached s
+
+  -- between two mini-transactions: no page has to stay, and there is room for a batch of 64 pages
+  pub record IsIdle (s : Cache W) : Type 0 where
+    pub steady : IsSteady s
+    pub unpinned : NonePinned s.pool
+    pub room : 64 ≤ vec_capacity s.batch
+
+  -- The log has these batches, as before, and the file stands for the same contents; the contents now are these.
+  pub record CachesAs (old new : Cache W) (batches : List (List Transaction)) (contents : Contents) : Type 0 where
+    pub cached : IsCached new
+    pub same : cached.file.batches ≡ batches
+    pub stands : flushed g new.stable batches ≡ flushed g old.stable batches
+    pub contents_are : now new ≡ contents
+
+  -- The contents now are the same, and so are the log's bytes. Each page stands in its place as it did, or as it is now.
+  pub record StaysCached (old new : Cache W) (batches : List (List Transaction)) : Type 0 where
+    pub after : CachesAs old new batches (now old)
+    pub pages : ArePagesOf (placed g old.stable) (now old) (placed g new.stable)
+    pub log : SameIn log_place log_bytes (g.image old.stable.world) (g.image new.stable.world)
+
+  -- What no call here changes. At each stop within it each page stands in its place as it did, or as it is now.
+  pub record KeepsFile {T E : Type 0} (old new : Cache W) (result : Result T E) : Type 0 where
+    pub stable : KeepsStable g old.stable new.stable result
+    pub room : vec_capacity new.batch ≡ vec_capacity old.batch
+    pub steady : OnOk result (IsSteady new)
+    pub pages : g.tells → IsCached old → LaysOnly g old.stable.world new.stable.world (ArePagesOf (placed g old.stable) (now old))
+
+  -- What a call on the frames leaves, which moves pages between them and the file. At each stop within it the file stands
+  -- for the contents that it stood for.
+  pub record KeepsCache {T E : Type 0} (old new : Cache W) (result : Result T E) : Type 0 where
+    pub file : KeepsFile old new result
+    pub log : new.stable.log ≡ old.stable.log
+    pub stays : g.tells → (cached : IsCached old) → OnOk result (StaysCached old new cached.file.batches)
+    pub stops : g.tells → (cached : IsCached old)
+        → StandsOnly g old.stable new.stable.world (λ contents. contents ≡ flushed g old.stable cached.file.batches)
+
+  -- where the file stands for the contents now, it stands for them at each stop since old
+  abbrev pub LeavesNow : Cache W → W → Type 0
+  LeavesNow old new = StandsFor (g.image old.stable.world) (now old) → StandsOnly g old.stable new (λ contents. contents ≡ now old)
+
+  -- The log is empty, and all pages stand in their places. The image as read stands for the contents now, in the file's shape.
+  pub record IsInPlace (s : Cache W) : Type 0 where
+    pub emptied : HasBatches g s.stable []
+    pub placed_is : placed g s.stable ≡ now s
+    pub stands : StandsFor (g.image s.stable.world) (now s)
+    pub pages : pages_in (g.image s.stable.world) ≡ s.stable.pages
+    pub fanout : fanout_in (g.image s.stable.world) ≡ s.stable.fanout
+
+  -- all pages were written in place, and the log was emptied
+  pub record IsSettled (s : Cache W) : Type 0 where
+    pub idle : IsIdle s
+    pub clean : NoneDirty s.pool
+    pub end : s.stable.log.end ≡ 0
+    pub in_place : g.tells → IsInPlace s

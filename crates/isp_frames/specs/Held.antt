@@ -1,12 +1,12 @@
 -- What the frames of a pool hold over the pages that stand in their places.
-use Rattle.std.specs.Prelude.{◌≡◌, ◌≢◌, ◌⊎◌, ℕ, ◌*◌, ◌<◌, Bool, true, false, List, [], ◌∷◌, Option, Some, None, length}
+use Rattle.std.specs.Prelude.{◌≡◌, ◌≢◌, ◌⊎◌, ℕ, ◌+◌, ◌*◌, ◌<◌, Bool, true, false, List, [], ◌∷◌, Option, Some, None, count_by, length, min}
 use Rattle.isp_disk.specs.Moments.{Region, either, in_range, no_place}
 use Rattle.isp_format.specs.Ranges.{Contents, Range, page_bytes, page_of, puts}
 use Rattle.isp_page.specs.declared.page.Page.{Page}
-use Rattle.isp_page.specs.declared.page.PageNo.{PageNo}
-use Rattle.isp_pool.specs.Frames.{PoolState, frame_at, frame_in, is_dirty, is_pinned, loaded, page_of as page_in, used, victim_of, with_frame}
+use Rattle.isp_base.specs.declared.page_no.PageNo.{PageNo}
+use Rattle.isp_pool.specs.Frames.{PoolState, frame_at, frame_in, is_cleanable, is_dirty, is_held, is_pinned, loaded, page_of as page_in, used, victim_of, with_frame}
 use Rattle.isp_pool.specs.declared.frames.Frame.{Frame}
-use Rattle.isp_recency.specs.Recent.{has}
+use Rattle.isp_recency.specs.Recent.{has, last_where}
 
 -- the page of a frame as a range, whole
 abbrev pub whole_frame : Frame → Range
@@ -44,6 +44,21 @@ AreClean frames placed = (i : ℕ) (frame : Frame) → frame_in frames i ≡ Som
 abbrev pub AreBelow : ℕ → List (Option Frame) → Type 0
 AreBelow pages frames = (i : ℕ) (frame : Frame) → frame_in frames i ≡ Some frame → frame.page.0 < pages
 
+-- no page stands in two frames, and a page has its bytes
+pub record AreApart (frames : List (Option Frame)) : Type 0 where
+  pub distinct : (i j : ℕ) (p : PageNo) → page_in (frame_in frames i) ≡ Some p → page_in (frame_in frames j) ≡ Some p → i ≡ j
+  pub whole : (i : ℕ) (f : Frame) → frame_in frames i ≡ Some f → length f.content.bytes ≡ 4096
+
+-- no frame holds a page that has to stay; no frame is dirty; all frames are free
+abbrev pub NonePinned : PoolState → Type 0
+NonePinned s = (i : ℕ) → is_pinned (frame_at s i) ≡ false
+
+abbrev pub NoneDirty : PoolState → Type 0
+NoneDirty s = (i : ℕ) → is_dirty (frame_at s i) ≡ false
+
+abbrev pub AreFree : PoolState → Type 0
+AreFree s = (i : ℕ) → frame_at s i ≡ None
+
 -- The page came to stand in a frame: it stood there, and was used; or it was read into the frame that is next to go.
 abbrev pub IsHeldAt : PageNo → ℕ → PoolState → PoolState → Type 0
 IsHeldAt p i old new =
@@ -72,6 +87,19 @@ LeavesLaterUsed old new =
     (i j : ℕ) → is_dirty (frame_at new i) ≡ true → is_dirty (frame_at old j) ≡ true → is_dirty (frame_at new j) ≡ false
     → StandsBefore i j old.recent
 
+-- The dirty pages that were used the longest ago were cleaned, 64 at most and so many.
+pub record CleansSome (old new : PoolState) (cleaned : ℕ) : Type 0 where
+  pub count : cleaned ≡ min 64 (count_by is_dirty old.frames)
+  pub left : count_by is_dirty new.frames + cleaned ≡ count_by is_dirty old.frames
+  pub others : IsCleaned old new
+  pub order : LeavesLaterUsed old new
+
+-- the frame is dirty, unpinned, and of those the one that was used the longest ago
+pub record IsNextDirty (i : ℕ) (s : PoolState) : Type 0 where
+  pub held : is_held (frame_at s i) ≡ true
+  pub dirty : is_dirty (frame_at s i) ≡ true
+  pub next : Some i ≡ last_where (λ k. is_cleanable (frame_at s k)) s.recent
+
 -- the page in a frame with its number
 abbrev pub numbered : Option Frame → Option (PageNo × Page)
 numbered None = None
@@ -86,3 +114,10 @@ pub record IsRoom (i : ℕ) (s : PoolState) : Type 0 where
   pub next : victim_of s ≡ Some i
   pub within : i < length s.frames
   pub unpinned : is_pinned (frame_at s i) ≡ false
+
+-- the frame is free, or clean and unpinned, and no frame holds the page that it is to take
+pub record CanTake (i : ℕ) (p : PageNo) (s : PoolState) : Type 0 where
+  pub within : i < length s.frames
+  pub clean : is_dirty (frame_at s i) ≡ false
+  pub unpinned : is_pinned (frame_at s i) ≡ false
+  pub absent : (k : ℕ) → page_in (frame_at s k) ≢ Some p

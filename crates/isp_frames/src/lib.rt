@@ -6,7 +6,5 @@
 
 mod cache;
 mod cleaning;
-#[cfg(test)]
-mod tests;
 
 pub use cache::Cache;

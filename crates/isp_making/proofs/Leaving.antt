@@ -1,10 +1,12 @@
 -- What a stop leaves in each step.
-use Rattle.std.proofs.Common.{◌≡◌, ◌≢◌, ◌⊎◌, inl, inr, ℕ, ◌+◌, ◌<◌, ◌^◌, List, [], Option, take, drop, refl, sym, ◌∙◌, ap, subst, arith}
+use Rattle.std.proofs.Common.{◌≡◌, ◌≢◌, ◌⊎◌, inl, inr, ℕ, ◌+◌, ◌<◌, ◌^◌, List, [], ◌∷◌, ◌++◌, take, drop, refl, sym, ◌∙◌, ap, subst, arith}
 use Rattle.std.proofs.lemmas.Bool.{cases_eq}
 use Rattle.byteorder.specs.Endian.{big_number}
 use Rattle.byteorder.specs.Numbers.{big_number-reads_back}
 use Rattle.isp_disk.specs.Moments.{Image, Region, Agree, During, Elapses, LeavesOnly, Within, either, no_place, slice}
-use Rattle.isp_disk.proofs.Moments.{LeftOfPhase, Phase, agree_wider, chains, goes_on, nothing_told, started, widens, within_both}
+use Rattle.isp_disk.specs.Phases.{LeftOfPhase, Phase}
+use Rattle.isp_disk.specs.declared.world.World.{Ghosts}
+use Rattle.isp_disk.proofs.Moments.{agree_wider, chains, goes_on, nothing_told, started, widens, within_both}
 use Rattle.isp_format.specs.Contents.{StandsFor}
 use Rattle.isp_format.specs.Control.{IsControl, IsFanout, IsPages, fanout_in, file_name, made_gate, pages_in}
 use Rattle.isp_format.specs.Doublewrite.{area, area_place, doublewrite_gate}
@@ -13,7 +15,7 @@ use Rattle.isp_format.specs.Ranges.{Range, puts}
 use Rattle.isp_format.proofs.Local.{copies_closed}
 use Rattle.isp_format.proofs.Places.{above, below}
 use Rattle.isp_format.proofs.Slices.{slice_agree}
-use Rattle.isp_making.specs.Making.{IsMade}
+use Rattle.isp_making.specs.Making.{IsMade, LeavesMaking}
 use Rattle.isp_making.specs.Places.{IsWritten, content_places, control_bytes, made_place}
 
 -- the numbers of a control block
@@ -63,6 +65,7 @@ made_by pages fanout written now many wide is agree gate =
     let log : log_of now 0 ≡ 0 = sym (agree 266240 refl) ∙ is.log in
     record {
       control = control_now;
+      block = λ i. control i ++ gate i ∷ [];
       pages_are = pages_now;
       fanout_is = fanout_now;
       copies = copies;
@@ -78,41 +81,35 @@ whole_or_none pages fanout written left many wide is agree = elim (cases_eq (lef
   | inr shut ↦ inl shut
 ]
 
--- a stop leaves what agrees with the image from before outside a region, or no file, or the whole one
-abbrev pub LeftBy : ℕ → ℕ → Region → Image → Option (List ℕ) → Image → Option (List ℕ) → Type 0
-LeftBy pages fanout region before told left said =
-    (Agree region before left ⊎ ((left made_gate ≢ 1) ⊎ IsMade pages fanout left)) × (said ≡ told)
-
 -- one step behind the other, from any world on
-module _ {W : Type 0} (clock : W → ℕ) (left_since : W → ℕ → Image → Option (List ℕ) → Type 0) (image : W → Image) (pending : W → Region) (printed : W → Option (List ℕ)) (pages fanout : ℕ) (region : Region) (old : W) where
-  abbrev pub Leaves : W → Type 0
-  Leaves now = LeavesOnly clock left_since old now (LeftBy pages fanout region (image old) (printed old))
+module _ {W : Type 0} (g : Ghosts W) (pages fanout : ℕ) (region : Region) (old : W) where
+  abbrev Left : Image → List ℕ → Type 0
+  Left left told = (Agree region (g.image old) left ⊎ ((left made_gate ≢ 1) ⊎ IsMade pages fanout left)) × (told ≡ g.printed old)
+
+  abbrev Leaves : W → Type 0
+  Leaves new = LeavesMaking g pages fanout region old new
 
   -- the first sync, which may find bytes pending
-  pub syncs : (new : W) → ((left : Image) (told : Option (List ℕ)) → left_since old (clock old) left told → Agree (pending old) (image old) left × (told ≡ printed old)) → Within (pending old) region → Elapses (clock old) (clock new) (left_since old) (left_since new) (During (image old) (pending old) no_place (printed old) []) → Leaves new
+  pub syncs : (new : W) → ((left : Image) (told : List ℕ) → g.left_since old (g.clock old) left told → Agree (g.pending old) (g.image old) left × (told ≡ g.printed old)) → Within (g.pending old) region → Elapses (g.clock old) (g.clock new) (g.left_since old) (g.left_since new) (During (g.image old) (g.pending old) no_place (g.printed old) []) → Leaves new
   syncs new only within time =
-      let P : Image → Option (List ℕ) → Type 0 = LeftBy pages fanout region (image old) (printed old) in
-      let now : LeavesOnly clock left_since old old P = started clock left_since old P (λ left told since. let was = only left told since in (inl (agree_wider (pending old) region (image old) left within was.0), was.1)) in
-      goes_on clock left_since old old new P (During (image old) (pending old) no_place (printed old) []) now time (λ left told during.
-      (inl (agree_wider (either (pending old) no_place) region (image old) left (within_both (pending old) no_place region within (λ place out. refl)) during.agree), nothing_told (printed old) told during.part))
+      let now : LeavesOnly g.clock g.left_since old old Left = started g.clock g.left_since old Left (λ left told since. let was = only left told since in (inl (agree_wider (g.pending old) region (g.image old) left within was.0), was.1)) in
+      goes_on g.clock g.left_since old old new Left (During (g.image old) (g.pending old) no_place (g.printed old) []) now time (λ left told during.
+      (inl (agree_wider (either (g.pending old) no_place) region (g.image old) left (within_both (g.pending old) no_place region within (λ place out. refl)) during.agree), nothing_told (g.printed old) told during.part))
 
   -- the made-gate is read, and closed where it is open
-  pub closes : (mid new : W) (touched : Region) → Leaves mid → Within touched region → image mid ≡ image old → printed mid ≡ printed old → Phase clock left_since image pending printed mid new touched → Leaves new
+  pub closes : (mid new : W) (touched : Region) → Leaves mid → Within touched region → g.image mid ≡ g.image old → g.printed mid ≡ g.printed old → Phase g mid new touched → Leaves new
   closes mid new touched so_far within same told phase =
-      let P : Image → Option (List ℕ) → Type 0 = LeftBy pages fanout region (image old) (printed old) in
-      chains clock left_since old mid new P so_far (widens clock left_since mid new (LeftOfPhase clock left_since image pending printed mid touched) P phase.leaves (λ left said has.
-      (inl (agree_wider touched region (image old) left within (λ place out. ap (λ (x : Image). x place) (sym same) ∙ has.0 place out)), has.1 ∙ told)))
+      chains g.clock g.left_since old mid new Left so_far (widens g.clock g.left_since mid new (LeftOfPhase g mid touched) Left phase.leaves (λ left said has.
+      (inl (agree_wider touched region (g.image old) left within (λ place out. ap (λ (x : Image). x place) (sym same) ∙ has.0 place out)), has.1 ∙ told)))
 
   -- all else is written while the made-gate is no 1
-  pub fills : (mid new : W) → Leaves mid → image mid made_gate ≢ 1 → printed mid ≡ printed old → Phase clock left_since image pending printed mid new content_places → Leaves new
+  pub fills : (mid new : W) → Leaves mid → g.image mid made_gate ≢ 1 → g.printed mid ≡ g.printed old → Phase g mid new content_places → Leaves new
   fills mid new so_far shut told phase =
-      let P : Image → Option (List ℕ) → Type 0 = LeftBy pages fanout region (image old) (printed old) in
-      chains clock left_since old mid new P so_far (widens clock left_since mid new (LeftOfPhase clock left_since image pending printed mid content_places) P phase.leaves (λ left said has.
+      chains g.clock g.left_since old mid new Left so_far (widens g.clock g.left_since mid new (LeftOfPhase g mid content_places) Left phase.leaves (λ left said has.
       (inr (inl (λ is. shut (has.0 made_gate refl ∙ is))), has.1 ∙ told)))
 
   -- the made-gate is opened: it is no 1, or the file is whole
-  pub opens : (mid new : W) → Leaves mid → IsPages pages → IsFanout fanout → IsWritten pages fanout (image mid) → printed mid ≡ printed old → Phase clock left_since image pending printed mid new made_place → Leaves new
+  pub opens : (mid new : W) → Leaves mid → IsPages pages → IsFanout fanout → IsWritten pages fanout (g.image mid) → g.printed mid ≡ g.printed old → Phase g mid new made_place → Leaves new
   opens mid new so_far many wide written told phase =
-      let P : Image → Option (List ℕ) → Type 0 = LeftBy pages fanout region (image old) (printed old) in
-      chains clock left_since old mid new P so_far (widens clock left_since mid new (LeftOfPhase clock left_since image pending printed mid made_place) P phase.leaves (λ left said has.
-      (inr (whole_or_none pages fanout (image mid) left many wide written has.0), has.1 ∙ told)))
+      chains g.clock g.left_since old mid new Left so_far (widens g.clock g.left_since mid new (LeftOfPhase g mid made_place) Left phase.leaves (λ left said has.
+      (inr (whole_or_none pages fanout (g.image mid) left many wide written has.0), has.1 ∙ told)))

@@ -1,16 +1,20 @@
 -- An empty file, and what a stop leaves while one is made.
-use Rattle.std.specs.Prelude.{◌≡◌, ◌≢◌, ◌⊎◌, ℕ, ◌*◌, ◌<◌, Option, List}
-use Rattle.isp_disk.specs.Moments.{Image, Region, Agree, either, in_range}
+use Rattle.std.specs.Prelude.{◌≡◌, ◌≢◌, ◌⊎◌, ℕ, ◌*◌, ◌<◌, [], ◌∷◌, ◌++◌}
+use Rattle.isp_disk.specs.Moments.{Image, Region, Agree, LeavesOnly, slice}
+use Rattle.isp_disk.specs.declared.world.World.{Ghosts}
 use Rattle.isp_format.specs.Contents.{StandsFor}
 use Rattle.isp_format.specs.Control.{IsControl, fanout_in, made_gate, pages_in}
 use Rattle.isp_format.specs.Doublewrite.{area, doublewrite_gate}
 use Rattle.isp_format.specs.Empty.{empty_contents, first_fresh}
 use Rattle.isp_format.specs.Log.{log_of}
 use Rattle.isp_format.specs.Ranges.{page_bytes}
+use Rattle.isp_making.specs.Places.{control_bytes}
 
 -- A file without a copy that counts and without a batch in its log, whose first pages are those of an empty file.
 pub record IsMade (pages fanout : ℕ) (image : Image) : Type 0 where
   pub control : IsControl image
+  -- the control block byte by byte, with its gate
+  pub block : slice image 0 64 ≡ control_bytes pages fanout ++ 1 ∷ []
   pub pages_are : pages_in image ≡ pages
   pub fanout_is : fanout_in image ≡ fanout
   pub copies : image doublewrite_gate ≡ 0
@@ -18,13 +22,8 @@ pub record IsMade (pages fanout : ℕ) (image : Image) : Type 0 where
   pub first : (place : ℕ) → place < first_fresh * page_bytes → area image place ≡ empty_contents place
   pub stands : StandsFor image (area image)
 
--- A stop leaves what stood there before but for the made-gate, or no file (its made-gate is not 1), or the whole one.
-abbrev pub LeftMaking : ℕ → ℕ → Region → Image → Option (List ℕ) → Image → Option (List ℕ) → Type 0
-LeftMaking pages fanout pending before told left said =
-    (Agree (either pending (in_range made_gate 1)) before left ⊎ ((left made_gate ≢ 1) ⊎ IsMade pages fanout left)) × (said ≡ told)
-
--- Where the made-gate was no 1 it isn't written before all else is durable: a stop leaves what stood there, its made-gate
--- too, or no file, or the whole one.
-abbrev pub LeftWhereClosed : ℕ → ℕ → Region → Image → Option (List ℕ) → Image → Option (List ℕ) → Type 0
-LeftWhereClosed pages fanout pending before told left said =
-    (Agree pending before left ⊎ ((left made_gate ≢ 1) ⊎ IsMade pages fanout left)) × (said ≡ told)
+-- Each stop since old leaves what stood there before but in this region, or no file (its made-gate is not 1), or the whole
+-- one; and nothing printed.
+abbrev pub LeavesMaking : {W : Type 0} → Ghosts W → ℕ → ℕ → Region → W → W → Type 0
+LeavesMaking g pages fanout region old new = LeavesOnly g.clock g.left_since old new (λ left told.
+    (Agree region (g.image old) left ⊎ ((left made_gate ≢ 1) ⊎ IsMade pages fanout left)) × (told ≡ g.printed old))

@@ -62,7 +62,8 @@ fn first_head(number: u32) -> Head
 // Puts the bytes over those that stand there.
 fn put_bytes(page: &mut Page, at: usize, piece: &[u8])
     requires { at + length piece.now ≤ 4096 }
-    ensures put { (place : ℕ) → image_of page.new.bytes place ≡ put (image_of page.old.bytes) at piece.now place }
+    ensures put { (place : ℕ)
+        → image_of page.new.bytes place ≡ put (image_of page.old.bytes) at piece.now place }
     ensures size { length page.new.bytes ≡ length page.old.bytes }
 {
     page.bytes[at..at + piece.len()].copy_from_slice(piece);

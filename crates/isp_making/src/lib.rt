@@ -10,7 +10,5 @@ mod control;
 mod first_pages;
 mod making;
 mod places;
-#[cfg(test)]
-mod tests;
 
 pub use making::make;

@@ -1,8 +1,7 @@
 //! Where the file's gates and pages stand, and the writing of its made-gate.
-ghost use Rattle.std.specs.Prelude.{◌≡◌, ◌+◌, ◌*◌, [], ◌∷◌, IsSome, OnOk};
-ghost use Rattle.isp_disk.proofs.Moments.{Phase};
+ghost use Rattle.std.specs.Prelude.{◌≡◌, ◌+◌, ◌*◌, [], ◌∷◌, OnOk};
 ghost use Rattle.isp_disk.specs.Moments.{Quiet, put};
-ghost use Rattle.isp_disk.specs.Outside.{HasCause};
+ghost use Rattle.isp_disk.specs.Phases.{WritesIn};
 ghost use Rattle.isp_format.specs.Control.{made_gate};
 ghost use Rattle.isp_format.specs.Doublewrite.{area_place};
 ghost use Rattle.isp_format.specs.Ranges.{page_bytes};
@@ -29,12 +28,9 @@ pub(crate) fn page_place(number: u32) -> u64
 /// Writes the made-gate, and makes it durable.
 pub(crate) fn set_gate<W: World>(world: &mut W, gate: u8) -> Result<(), Failed>
     requires { Quiet (W.pending world.old) }
-    ensures phase { Phase W.clock W.left_since W.image W.pending W.printed world.old world.new made_place }
-    ensures written { IsSome (W.printed world.old) → OnOk result (W.image world.new
-        ≡ put (W.image world.old) made_gate (gate ∷ [])) }
-    ensures quiet { OnOk result (Quiet (W.pending world.new)) }
-    ensures cause { HasCause (W.disk_faults world.old) (W.disk_faults world.new) result }
-    ensures printer { W.print_faults world.new ≡ W.print_faults world.old }
+    ensures written { W.tells
+        → OnOk result (W.image world.new ≡ put (W.image world.old) made_gate (gate ∷ [])) }
+    ensures wrote { WritesIn W.World made_place world.old world.new result }
 {
     world.write(MADE_GATE, &[gate])?;
     world.sync()?;

@@ -1,9 +1,8 @@
 -- The body of a mini-transaction, spelled range by range: how many bytes it has, and what one more range makes of it.
-use Rattle.std.proofs.Common.{◌≡◌, ℕ, suc, ◌+◌, ◌*◌, ◌-◌, ◌<◌, ◌≤◌, List, [], ◌∷◌, ◌++◌, All, length, map, take, get_or, refl, sym, ◌∙◌, ap, arith}
+use Rattle.std.proofs.Common.{◌≡◌, ℕ, ◌+◌, ◌*◌, ◌-◌, ◌<◌, ◌≤◌, List, [], ◌∷◌, ◌++◌, All, length, take, get_or, refl, sym, ◌∙◌, ap, arith}
 use Rattle.std.specs.List.{flat_map}
 use Rattle.std.proofs.lemmas.List.{flat_map_more, length-append, length-map, length-take, map-append, take_all, take_more}
 use Rattle.std.proofs.lemmas.List.Elements.{All-head, All-tail, All-take}
-use Rattle.std.proofs.Math.Seq.{take-suc}
 use Rattle.isp_format.specs.Log.{range_bytes, transaction_bytes}
 use Rattle.isp_format.specs.Numbers.{bytes_of}
 use Rattle.isp_format.specs.Ranges.{Contents, Range}
@@ -48,12 +47,6 @@ more_ranges : (count : ℕ) (now : Contents) (front : List Extent) (extent : Ext
 more_ranges count now front extent =
     flat_map_more range_bytes (bytes_of 2 count) (ranges_in now front) (range_in now extent)
     ∙ ap (λ (ranges : List Range). bytes_of 2 count ++ flat_map range_bytes ranges) (sym (map-append (range_in now) front (extent ∷ [])))
-
--- one range more
-pub front_more : (count : ℕ) (now : Contents) (extents : List Extent) (i : ℕ) (d : Extent) → i < length extents → body_front count now extents i ++ range_bytes (range_in now (get_or extents i d)) ≡ body_front count now extents (suc i)
-front_more count now extents i d inside =
-    more_ranges count now (take i extents) (get_or extents i d)
-    ∙ ap (λ (front : List Extent). bytes_of 2 count ++ flat_map range_bytes (ranges_in now front)) (sym (take-suc extents i d inside))
 
 -- the same, as a loop over the extents counts
 pub front_next : (count : ℕ) (now : Contents) (extents : List Extent) (i : ℕ) (d : Extent) → i < length extents → body_front count now extents i ++ range_bytes (range_in now (get_or extents i d)) ≡ body_front count now extents (i + 1)

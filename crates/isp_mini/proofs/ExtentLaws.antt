@@ -13,8 +13,8 @@ use Rattle.isp_format.specs.Doublewrite.{AreDistinct}
 use Rattle.isp_format.specs.Ranges.{Contents, page_bytes, page_of}
 use Rattle.isp_format.proofs.Places.{neither, not_first, not_second}
 use Rattle.isp_format.proofs.Slices.{put_outside, slice_agree}
-use Rattle.isp_page.specs.Calls.{most_changed, with_page}
-use Rattle.isp_page.specs.declared.page.PageNo.{PageNo}
+use Rattle.isp_page.specs.State.{most_changed, with_page}
+use Rattle.isp_base.specs.declared.page_no.PageNo.{PageNo}
 use Rattle.isp_mini.specs.Extents.{AreExtents, IsExtent, extent_cover, extent_place, page_number, widened, with_extent}
 use Rattle.isp_mini.specs.declared.changes.Extent.{Extent}
 
@@ -216,6 +216,7 @@ cover_beside page (extent ∷ extents) place each none from to =
 
 -- a page that has no extent is as it was
 pub page_kept : (page : ℕ) (extents : List Extent) (done now : Contents) → All IsExtent extents → list_any (λ other. other == page) (map page_number extents) ≡ false → Agree (extent_cover extents) done now → page_of done page ≡ page_of now page
+unfolding page_of
 page_kept page extents done now each none agree =
     slice_agree done now (page * page_bytes) page_bytes (λ place from to. agree place (cover_beside page extents place each none from to))
 

@@ -1,5 +1,5 @@
 -- The ranges that the log gets of extents: put over what was there before the mini-transaction, they make what is there now.
-use Rattle.std.proofs.Common.{◌≡◌, ℕ, ◌+◌, ◌*◌, ◌-◌, ◌<◌, ◌≤◌, Bool, true, false, List, [], ◌∷◌, All, length, map, take, drop, get_or, refl, sym, ◌∙◌, ap, arith, if◌then◌else◌}
+use Rattle.std.proofs.Common.{◌≡◌, ℕ, ◌+◌, ◌*◌, ◌-◌, ◌<◌, ◌≤◌, Bool, true, false, List, [], ◌∷◌, All, take, drop, get_or, refl, sym, ◌∙◌, ap, arith, if◌then◌else◌}
 use Rattle.std.specs.Prelude.{slice_index}
 use Rattle.std.proofs.lemmas.List.{append-nil, length-map}
 use Rattle.std.proofs.lemmas.List.Elements.{All-cons, All-map, All-nil}
@@ -68,6 +68,7 @@ body_is pages now extents are below = body_of_one pages (ranges_in now extents) 
 
 -- the bytes of an extent stand in its page
 pub page_piece : (now : Contents) (extent : Extent) → IsExtent extent → take (extent.end - extent.at) (drop extent.at (page_of now extent.page.0)) ≡ slice now (extent_place extent) (extent.end - extent.at)
+unfolding page_of
 page_piece now extent is =
     let start = extent.page.0 * page_bytes in
     let size = extent.end - extent.at in

@@ -7,8 +7,8 @@ use Rattle.isp_format.specs.Doublewrite.{AreDistinct}
 use Rattle.isp_format.specs.Log.{Transaction, range_bytes}
 use Rattle.isp_format.specs.Numbers.{bytes_of}
 use Rattle.isp_format.specs.Ranges.{Contents, Range, page_bytes}
-use Rattle.isp_page.specs.Calls.{most_changed}
-use Rattle.isp_page.specs.declared.page.PageNo.{PageNo}
+use Rattle.isp_page.specs.State.{most_changed}
+use Rattle.isp_base.specs.declared.page_no.PageNo.{PageNo}
 use Rattle.isp_mini.specs.declared.changes.Extent.{Extent}
 
 -- the number of an extent's page

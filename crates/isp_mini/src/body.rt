@@ -50,7 +50,8 @@ impl Body {
     pub fn push(&mut self, page: PageNo, at: u16, bytes: &[u8])
         requires range { length bytes.now ≤ page_bytes }
         requires room { length self.old + 8 + length bytes.now ≤ largest_body }
-        ensures { self.new ≡ self.old ++ range_bytes (record { page = page.0; at = at; bytes = bytes.now }) }
+        ensures { self.new ≡ self.old
+            ++ range_bytes (record { page = page.0; at = at; bytes = bytes.now }) }
     {
         let len = bytes.len() as u16;
         append(&mut self.bytes, &page.0.to_be_bytes());

@@ -2,7 +2,7 @@
 ghost use Rattle.std.specs.Prelude.{◌≡◌, ◌+◌, ◌<◌, ◌≤◌, ◌==◌, ◌++◌, [], ◌∷◌, IfOk, length, vec_capacity};
 ghost use Rattle.std.specs.List.{position};
 ghost use Rattle.isp_format.specs.Ranges.{page_bytes};
-ghost use Rattle.isp_page.specs.Calls.{most_changed};
+ghost use Rattle.isp_page.specs.State.{most_changed};
 ghost use Rattle.isp_mini.specs.Extents.{AreExtents, widened, with_extent};
 
 use isp_page::PageNo;
@@ -13,7 +13,7 @@ use std::marker::Model;
 const MOST_CHANGED: usize = 48;
 
 /// The bytes of a page from `at` to before `end`.
-#[derive(Clone, Copy, Debug, PartialEq, Eq)]
+#[derive(Clone, Copy, PartialEq, Eq)]
 pub struct Extent {
     pub page: PageNo,
     pub at: u16,
@@ -42,7 +42,7 @@ pub struct Changes {
 
 impl Model for Changes {
     ghost use Rattle.std.specs.Prelude.{◌≤◌, List, vec_capacity};
-    ghost use Rattle.isp_page.specs.Calls.{most_changed};
+    ghost use Rattle.isp_page.specs.State.{most_changed};
     ghost use Rattle.isp_mini.specs.Extents.{AreExtents};
     ghost use Rattle.isp_mini.specs.declared.changes.Extent.{Extent};
 

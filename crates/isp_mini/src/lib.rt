@@ -6,8 +6,6 @@
 
 mod body;
 mod changes;
-#[cfg(test)]
-mod tests;
 
 pub use body::{Body, LARGEST_BODY};
 pub use changes::{Changes, Extent};

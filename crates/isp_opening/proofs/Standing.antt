@@ -1,6 +1,7 @@
 -- What an image stands for, while its copies are laid over their pages and behind that.
-use Rattle.std.proofs.Common.{◌≡◌, ◌≢◌, inl, inr, ℕ, ◌<◌, false, List, Option, refl, sym, ◌∙◌, ap, subst, arith}
-use Rattle.isp_disk.specs.Moments.{Image, Region, Agree, LeavesOnly, no_place}
+use Rattle.std.proofs.Common.{◌≡◌, ◌≢◌, inl, inr, ℕ, ◌<◌, false, List, refl, sym, ◌∙◌, ap, subst, arith}
+use Rattle.isp_disk.specs.Moments.{Image, Agree, LeavesOnly, no_place}
+use Rattle.isp_disk.specs.Phases.{LeftOfPhase}
 use Rattle.isp_disk.specs.declared.world.World.{Ghosts}
 use Rattle.isp_disk.proofs.Moments.{chains, widens}
 use Rattle.isp_doublewrite.specs.Places.{gate_place, page_places}
@@ -11,13 +12,14 @@ use Rattle.isp_format.specs.Contents.{StandsFor, ranges_of}
 use Rattle.isp_format.specs.Control.{pages_in}
 use Rattle.isp_format.specs.Doublewrite.{HasCopies, area, area_place, doublewrite_gate, laid}
 use Rattle.isp_format.specs.Log.{IsLog, log_bytes, log_of, log_place}
-use Rattle.isp_format.specs.Ranges.{Contents, puts}
-use Rattle.isp_format.proofs.Local.{SameIn, control_same, copies_closed, fanout_same, log_kept, pages_same, stands_moved}
+use Rattle.isp_format.specs.Ranges.{Contents, SameIn, puts}
+use Rattle.isp_format.proofs.Local.{control_same, copies_closed, fanout_same, log_kept, pages_same, stands_moved}
 use Rattle.isp_format.proofs.Places.{above, below, neither}
 use Rattle.isp_opening.specs.Finding.{AreInPlace, KeepsRules, file_of}
-use Rattle.isp_opening.specs.Opening.{IsOpened, LeftOpening}
+use Rattle.isp_opening.specs.Opening.{LeftOpening, StandAlike}
 use Rattle.isp_opening.specs.declared.rules.Found.{Found}
-use Rattle.isp_redo.specs.Changes.{ChangesOnly}
+use Rattle.isp_stable.specs.File.{IsFile}
+use Rattle.isp_stable.proofs.Files.{stands as file_stands}
 
 -- the control block and the log have no place that a restore writes
 beside : (before : Image) (place : ℕ) → gate_place place ≡ false → place < area_place → restored_places before place ≡ false
@@ -29,12 +31,19 @@ control_beside before left agree place low high = agree place (beside before pla
 log_beside : (before left : Image) → Agree (restored_places before) before left → SameIn log_place log_bytes before left
 log_beside before left agree place low high = agree place (beside before place (above 512 1 place (omega (arith, low))) (omega (arith, high)))
 
--- a stop within a restore leaves the same contents
-still_stands : (pages : ℕ) (before left : Image) (told said : Option (List ℕ)) (contents : Contents) → pages_in before ≡ pages → StandsFor before contents → RestoreLeft pages before told left said → StandsFor left contents
-still_stands pages before left told said contents are stands has =
-    stands_moved before left contents stands (control_beside before left has.others) (log_beside before left has.others)
-    (subst (λ (n : ℕ). HasCopies n left) (sym are) (has.copies (subst (λ (n : ℕ). HasCopies n before) are stands.copies)))
-    (ap (puts (ranges_of stands.batches)) has.same_pages)
+-- a stop within a restore leaves the same contents, in a file of the same shape
+left_alike : (pages : ℕ) (before left : Image) (told said : List ℕ) (contents : Contents) → pages_in before ≡ pages → StandsFor before contents → RestoreLeft pages before told left said → StandAlike before left
+left_alike pages before left told said contents are stands has =
+    let control = control_beside before left has.others in
+    record {
+      contents = contents;
+      first = stands;
+      second = stands_moved before left contents stands control (log_beside before left has.others)
+          (subst (λ (n : ℕ). HasCopies n left) (sym are) (has.copies (subst (λ (n : ℕ). HasCopies n before) are stands.copies)))
+          (ap (puts (ranges_of stands.batches)) has.same_pages);
+      pages = sym (pages_same before left control);
+      fanout = sym (fanout_same before left control);
+    }
 
 -- the contents of a file that keeps the rules
 abbrev pub contents_of : (image : Image) (found : Found) → KeepsRules image found → Contents
@@ -68,39 +77,48 @@ all_laid pages before now is = record {
   log = log_beside before now is.others;
 }
 
--- the file stands for what it stood for
-pub is_opened : {W : Type 0} (g : Ghosts W) (old now : W) (found : Found) → KeepsRules (g.image old) found → AreInPlace (g.image old) (g.image now) → IsOpened g old (file_of now found)
-is_opened g old now found kept placed =
-    let before : Image = g.image old in
-    let after : Image = g.image now in
-    record {
-      contents = contents_of before found kept;
-      stood = stands before found kept;
-      file = record {
+module _ {W : Type 0} (g : Ghosts W) where
+  -- the file, once its copies are laid, and that it stands for what it stood for
+  abbrev pub its_file : (old now : W) (found : Found) → KeepsRules (g.image old) found → AreInPlace (g.image old) (g.image now) → IsFile g (file_of now found)
+  its_file old now found kept placed =
+      let before : Image = g.image old in
+      let after : Image = g.image now in
+      record {
         control = control_same before after placed.control kept.control;
         pages = sym (pages_same before after placed.control) ∙ kept.pages;
         fanout = sym (fanout_same before after placed.control) ∙ kept.fanout;
         closed = placed.closed;
         batches = kept.batches;
         log = log_kept found.control.pages before after kept.batches found.log.end placed.log kept.log;
-      };
-      stands = ap (puts (ranges_of kept.batches)) placed.placed;
-    }
+      }
 
-module _ {W : Type 0} (clock : W → ℕ) (left_since : W → ℕ → Image → Option (List ℕ) → Type 0) (image : W → Image) (pending : W → Region) (printed : W → Option (List ℕ)) where
-  -- what a stop leaves of an opening that began so
-  abbrev pub Left : W → Image → Option (List ℕ) → Type 0
-  Left old = LeftOpening (pending old) (image old) (printed old)
+  pub alike : (old now : W) (found : Found) → KeepsRules (g.image old) found → AreInPlace (g.image old) (g.image now) → StandAlike (g.image old) (g.image now)
+  alike old now found kept placed =
+      let before : Image = g.image old in
+      let after : Image = g.image now in
+      record {
+        contents = contents_of before found kept;
+        first = stands before found kept;
+        second = subst (λ (all : Contents). StandsFor after (puts (ranges_of kept.batches) all)) placed.placed (file_stands g (file_of now found) (its_file old now found kept placed));
+        pages = sym (pages_same before after placed.control);
+        fanout = sym (fanout_same before after placed.control);
+      }
 
-  -- up to the first good sync, and in the reads behind it
-  pub tested : (old durable read : W) → ChangesOnly clock left_since image printed old durable (pending old) → image durable ≡ image old → printed durable ≡ printed old → ChangesOnly clock left_since image printed durable read no_place → LeavesOnly clock left_since old read (Left old)
-  tested old durable read first same told second = chains clock left_since old durable read (Left old)
-      (widens clock left_since old durable _ (Left old) first (λ left said has. (inl has.0, has.1)))
-      (widens clock left_since durable read _ (Left old) second (λ left said has. (inl (λ place out. (λ i. sym same i place) ∙ has.0 place refl), has.1 ∙ told)))
+  -- up to the first good sync
+  pub durable_left : (old durable : W) → LeavesOnly g.clock g.left_since old durable (LeftOfPhase g old (g.pending old)) → LeavesOnly g.clock g.left_since old durable (LeftOpening g old)
+  durable_left old durable first = widens g.clock g.left_since old durable _ (LeftOpening g old) first (λ left said has. (inl has.0, has.1))
+
+  -- in the reads behind it
+  pub tested : (old durable read : W) → LeavesOnly g.clock g.left_since old durable (LeftOfPhase g old (g.pending old)) → g.image durable ≡ g.image old → g.printed durable ≡ g.printed old
+      → LeavesOnly g.clock g.left_since durable read (LeftOfPhase g durable no_place) → LeavesOnly g.clock g.left_since old read (LeftOpening g old)
+  tested old durable read first same told second = chains g.clock g.left_since old durable read (LeftOpening g old)
+      (durable_left old durable first)
+      (widens g.clock g.left_since durable read _ (LeftOpening g old) second (λ left said has. (inl (λ place out. (λ i. sym same i place) ∙ has.0 place refl), has.1 ∙ told)))
 
   -- while the copies are laid
-  pub restored : (old read laid : W) (pages : ℕ) (contents : Contents) → pages_in (image old) ≡ pages → StandsFor (image old) contents → LeavesOnly clock left_since old read (Left old) → image read ≡ image old → printed read ≡ printed old → LeavesOnly clock left_since read laid (RestoreLeft pages (image read) (printed read)) → LeavesOnly clock left_since old laid (Left old)
-  restored old read laid pages contents are stood first same told second = chains clock left_since old read laid (Left old) first
-      (widens clock left_since read laid _ (Left old) second (λ left said has.
-      let before : RestoreLeft pages (image old) (printed read) left said = subst (λ (i : Image). RestoreLeft pages i (printed read) left said) same has in
-      (inr (contents, stood, still_stands pages (image old) left (printed read) said contents are stood before), before.same ∙ told)))
+  pub restored : (old read laid : W) (pages : ℕ) (contents : Contents) → pages_in (g.image old) ≡ pages → StandsFor (g.image old) contents → LeavesOnly g.clock g.left_since old read (LeftOpening g old) → g.image read ≡ g.image old → g.printed read ≡ g.printed old
+      → LeavesOnly g.clock g.left_since read laid (RestoreLeft pages (g.image read) (g.printed read)) → LeavesOnly g.clock g.left_since old laid (LeftOpening g old)
+  restored old read laid pages contents are stood first same told second = chains g.clock g.left_since old read laid (LeftOpening g old) first
+      (widens g.clock g.left_since read laid _ (LeftOpening g old) second (λ left said has.
+      let before : RestoreLeft pages (g.image old) (g.printed read) left said = subst (λ (i : Image). RestoreLeft pages i (g.printed read) left said) same has in
+      (inr (left_alike pages (g.image old) left (g.printed read) said contents are stood before), before.same ∙ told)))

@@ -1,10 +1,11 @@
 -- What the tests of the first three page rules find, and what laying the copies makes of the file.
-use Rattle.std.specs.Prelude.{◌≡◌, ◌≢◌, List, Option, Some, None}
+use Rattle.std.specs.Prelude.{◌≡◌, ◌≢◌, List, Option, Some, None, Result, Ok, Err}
 use Rattle.isp_disk.specs.Moments.{Image, slice}
+use Rattle.isp_disk.specs.declared.world.Failed.{Failed}
 use Rattle.isp_format.specs.Control.{IsControl, IsFanout, IsPages, fanout_in, file_name, made_gate, pages_in}
 use Rattle.isp_format.specs.Doublewrite.{HasCopies, area, doublewrite_gate, laid}
 use Rattle.isp_format.specs.Log.{IsLog, Transaction, log_bytes, log_of, log_place}
-use Rattle.isp_format.proofs.Local.{SameIn}
+use Rattle.isp_format.specs.Ranges.{SameIn}
 use Rattle.isp_page.specs.declared.fault.StoreFault.{StoreFault}
 use Rattle.isp_page.specs.declared.fault.StoreFault.TheVariants as store
 use Rattle.isp_opening.specs.Opening.{BreaksFirst}
@@ -52,6 +53,12 @@ pub record AreInPlace (before now : Image) : Type 0 where
 abbrev pub fault_of : Refusal → StoreFault
 fault_of Disk = store.Disk
 fault_of (Broken rule) = store.Damaged 0 rule
+
+-- what the disk answered: a broken rule is no failure of it
+abbrev pub disk_part : {T : Type 0} → Result T Refusal → Result (Unit {0}) Failed
+disk_part (Ok found) = Ok tt
+disk_part (Err Disk) = Err (record {})
+disk_part (Err (Broken rule)) = Ok tt
 
 -- the file that was found in a world
 abbrev pub file_of : {W : Type 0} → W → Found → Stable W

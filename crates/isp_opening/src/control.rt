@@ -1,10 +1,9 @@
 //! The control block at the front of the file, as it is read.
-ghost use Rattle.std.specs.Prelude.{◌≡◌, ◌↔◌, ◌+◌, ◌≤◌, ◌&&◌, nat_le, IsSome, IsTrue, IfOk, IfSome};
+ghost use Rattle.std.specs.Prelude.{◌≡◌, ◌↔◌, ◌+◌, ◌≤◌, ◌&&◌, nat_le, IsTrue, IfOk, IfSome};
 ghost use Rattle.isp_disk.specs.Moments.{Quiet, image_of};
-ghost use Rattle.isp_disk.specs.Outside.{HasCause};
+ghost use Rattle.isp_disk.specs.Phases.{OnlyReads};
 ghost use Rattle.isp_format.specs.Numbers.{number_at};
 ghost use Rattle.isp_opening.specs.Finding.{FindsControl, IsMade, IsPossible};
-ghost use Rattle.isp_redo.specs.Reading.{OnlyReads};
 
 use byteorder::{BigEndian, ByteOrder};
 use isp_disk::{Failed, World};
@@ -34,7 +33,7 @@ const LEAST_FANOUT: u32 = 4;
 const MOST_FANOUT: u32 = 120;
 
 /// The numbers of the control block.
-#[derive(Clone, Copy, Debug, PartialEq, Eq)]
+#[derive(Clone, Copy)]
 pub struct Control {
     /// How many pages the file has.
     pub pages: u32,
@@ -46,11 +45,9 @@ pub struct Control {
 /// file wasn't made whole.
 pub fn read_control<W: World>(world: &mut W) -> Result<Option<Control>, Failed>
     requires { Quiet (W.pending world.old) }
-    ensures found { IsSome (W.printed world.old)
-        → IfOk result (λ control. FindsControl (W.image world.old) control) }
+    ensures found { W.tells → IfOk result (FindsControl (W.image world.old)) }
     ensures possible { IfOk result (λ control. IfSome control IsPossible) }
-    ensures reads { OnlyReads W.clock W.left_since W.image W.pending W.printed W.print_faults world.old world.new }
-    ensures cause { HasCause (W.disk_faults world.old) (W.disk_faults world.new) result }
+    ensures reads { OnlyReads W.World world.old world.new result }
 {
     let mut block = [0; 64];
     world.read(0, &mut block)?;

@@ -8,7 +8,5 @@
 mod control;
 mod opening;
 mod rules;
-#[cfg(test)]
-mod tests;
 
 pub use opening::open;

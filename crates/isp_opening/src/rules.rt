@@ -1,10 +1,9 @@
 //! The first three page rules, tested by reads alone.
-ghost use Rattle.std.specs.Prelude.{◌≡◌, IsSome, IfErr, IfOk, OnOk};
+ghost use Rattle.std.specs.Prelude.{◌≡◌, IfErr, IfOk};
 ghost use Rattle.isp_disk.specs.Moments.{Quiet};
-ghost use Rattle.isp_disk.specs.Outside.{Rose};
-ghost use Rattle.isp_opening.specs.Finding.{IsBroken, IsPossible, KeepsRules};
+ghost use Rattle.isp_disk.specs.Phases.{OnlyReads};
+ghost use Rattle.isp_opening.specs.Finding.{IsBroken, IsPossible, KeepsRules, disk_part};
 ghost use Rattle.isp_opening.specs.declared.rules.Refusal.TheVariants.{Disk};
-ghost use Rattle.isp_redo.specs.Reading.{OnlyReads};
 
 use crate::control::{Control, read_control};
 use isp_disk::{Failed, World};
@@ -12,14 +11,14 @@ use isp_doublewrite::check_copies;
 use isp_redo::Log;
 
 /// What a file that keeps the rules has.
-#[derive(Clone, Copy, Debug, PartialEq, Eq)]
+#[derive(Clone, Copy)]
 pub struct Found {
     pub control: Control,
     pub log: Log,
 }
 
 /// Why a file isn't opened.
-#[derive(Clone, Copy, Debug, PartialEq, Eq)]
+#[derive(Clone, Copy)]
 pub enum Refusal {
     /// A call of the disk failed.
     Disk,
@@ -38,12 +37,10 @@ impl From<Failed> for Refusal {
 /// Tests the control block, the list of copies and the log. The first of the rules that is broken is named.
 pub fn test_rules<W: World>(world: &mut W) -> Result<Found, Refusal>
     requires { Quiet (W.pending world.old) }
-    ensures kept { IsSome (W.printed world.old) → IfOk result (λ found. KeepsRules (W.image world.old) found) }
+    ensures kept { W.tells → IfOk result (KeepsRules (W.image world.old)) }
     ensures possible { IfOk result (λ found. IsPossible found.control) }
-    ensures broken { IsSome (W.printed world.old) → IfErr result (λ e. IsBroken (W.image world.old) e) }
-    ensures reads { OnlyReads W.clock W.left_since W.image W.pending W.printed W.print_faults world.old world.new }
-    ensures cause_ok { OnOk result (W.disk_faults world.new ≡ W.disk_faults world.old) }
-    ensures cause_err { IfErr result (λ e. e ≡ Disk → Rose (W.disk_faults world.old) (W.disk_faults world.new)) }
+    ensures broken { W.tells → IfErr result (IsBroken (W.image world.old)) }
+    ensures reads { OnlyReads W.World world.old world.new (disk_part result) }
 {
     let Some(control) = read_control(world)? else {
         return Err(Refusal::Broken(1));

@@ -1,9 +1,9 @@
 -- Walks along chains, and chains after one frame came in or went.
-use Rattle.std.proofs.Common.{◌≡◌, ◌≢◌, ◌∙◌, ◌+◌, ◌<◌, ◌≤◌, ◌%◌, Bool, true, false, List, ℕ, zero, suc, Option, Some, None, refl, sym, ap, subst, arith, ⊎_elim, length, get_or, set, length-set, replicate}
+use Rattle.std.proofs.Common.{◌≡◌, ◌∙◌, ◌+◌, ◌<◌, ◌≤◌, ◌%◌, Bool, true, false, List, ℕ, zero, suc, Option, Some, None, refl, sym, ap, subst, arith, ⊎_elim, length, get_or, set, length-set, replicate}
 use Rattle.std.proofs.lemmas.Bool.{false≢true, eqb-true, eq-eqb, ne_eqb, cases_eq, cases_lt, cases_order}
 use Rattle.std.proofs.lemmas.List.{get_or_past, get_or-set_same, get_or-set_other, length-replicate}
-use Rattle.isp_page.specs.declared.page.PageNo.{PageNo}
-use Rattle.isp_pool.specs.Chains.{page_of_frame, falls, in_chain, IsLast, IsAbove, AreLinked, AreHeads, IsChained, IsPassed, follower, start_with, links_with, IsWithin}
+use Rattle.isp_base.specs.declared.page_no.PageNo.{PageNo}
+use Rattle.isp_pool.specs.Chains.{page_of_frame, falls, in_chain, IsLast, IsAbove, AreLinked, AreHeads, IsChained, follower, start_with, links_with}
 
 nothing_at : {X : Type 0} (n i : ℕ) → ◌≡◌ {A = Option X} (get_or (replicate n None) i None) None
 nothing_at zero i = refl
@@ -43,54 +43,6 @@ linked_at : (n : ℕ) (pages : List (Option PageNo)) (next : List (Option ℕ)) 
 linked_at n pages next c i linked h =
     let q = falls_page n c (page_of_frame pages i) h in
     subst (λ d. IsLast (in_chain n pages d) i (get_or next i None)) q.2 (linked.links i q.0 q.1)
-
--- the walk that looks for a page
-goes_by : (pages : List (Option PageNo)) (p : PageNo) (bound : ℕ) (r : Option ℕ) → bound ≤ length pages
-    → IsLast (in_chain (length pages) pages (p.0 % length pages)) bound r → ((j : ℕ) → bound ≤ j → page_of_frame pages j ≢ Some p) → IsPassed pages p r
-goes_by pages p bound None le last above = λ j e.
-    ⊎_elim (λ lt. false≢true (sym (last j lt) ∙ chain_has (length pages) pages j p e)) (λ past. above j past e) (cases_lt j bound)
-goes_by pages p bound (Some i) le last above =
-    let fits : i < bound = last.0 in (
-      omega arith,
-      last.1,
-      λ j lt e.
-          ⊎_elim (λ inside. false≢true (sym (last.2 j lt inside) ∙ chain_has (length pages) pages j p e)) (λ past. above j past e) (cases_lt j bound),
-    )
-
-pub walk_begins : (pages : List (Option PageNo)) (p : PageNo) (r : Option ℕ)
-    → IsLast (in_chain (length pages) pages (p.0 % length pages)) (length pages) r → IsPassed pages p r
-walk_begins pages p r last = goes_by pages p (length pages) r (omega arith) last (λ j past e. let lt = frame_below pages j p e in omega arith)
-
-pub walk_goes_on : (pages : List (Option PageNo)) (next : List (Option ℕ)) (p : PageNo) (i : ℕ) → AreLinked (length pages) pages next → IsPassed pages p (Some i)
-    → (page_of_frame pages i ≡ Some p → ⊥) → IsPassed pages p (get_or next i None)
-walk_goes_on pages next p i linked passed other =
-    let lt : i < length pages = passed.0 in
-    goes_by pages p i (get_or next i None) (omega arith) (linked_at (length pages) pages next (p.0 % length pages) i linked passed.1)
-    (λ j le e. ⊎_elim (λ same. other (ap (page_of_frame pages) (sym same) ∙ e))
-    (λ differ. ⊎_elim (λ low. absurd (omega arith)) (λ high. passed.2 j high e) differ) (cases_order j i))
-
-pub walk_falls : (n : ℕ) (pages : List (Option PageNo)) (next : List (Option ℕ)) (c i : ℕ) → AreLinked n pages next → in_chain n pages c i ≡ true
-    → left (get_or next i None) < left (Some i)
-walk_falls n pages next c i linked h =
-    let P : Option ℕ → Type 0 = λ o. IsLast (in_chain n pages c) i o → left o < left (Some i) in
-    elim (get_or next i None) as P [ None ↦ λ last. omega arith | Some k ↦ λ last. let lt : k < i = last.0 in omega arith ] (linked_at n pages next c i linked h)
-
--- the walk that looks for the frame above another
-pub stays_above : (test : ℕ → Bool) (low n : ℕ) (above : Option ℕ) (at : Option ℕ) → IsLast test (limit above n) at → IsOver test low n above
-    → ((i : ℕ) → at ≡ Some i → i ≤ low) → IsAbove test low n above
-stays_above test low n None None last over stop = λ j a b. last j b
-stays_above test low n None (Some i) last over stop = λ j a b. let le : i ≤ low = stop i refl in last.2 j (omega arith) b
-stays_above test low n (Some k) None last over stop = (over.0, over.1, over.2, λ j a b. last j b)
-stays_above test low n (Some k) (Some i) last over stop = (over.0, over.1, over.2, λ j a b. let le : i ≤ low = stop i refl in last.2 j (omega arith) b)
-
-pub over_more : (test : ℕ → Bool) (low n i : ℕ) (above : Option ℕ) → IsLast test (limit above n) (Some i) → IsOver test low n above → low < i → IsOver test low n (Some i)
-over_more test low n i None last over lt = (lt, last.0, last.1)
-over_more test low n i (Some k) last over lt = let a : i < k = last.0 in let b : k < n = over.1 in (lt, omega arith, last.1)
-
--- what a frame above another is good for
-pub above_within : (test : ℕ → Bool) (low n : ℕ) (above : Option ℕ) → IsAbove test low n above → IsWithin above n
-above_within test low n None h = tt
-above_within test low n (Some i) h = h.1
 
 between : (test : ℕ → Bool) (low n : ℕ) (above : Option ℕ) → IsAbove test low n above → (j : ℕ) → low < j → j < limit above n → test j ≡ false
 between test low n None h j a b = h j a b
@@ -272,10 +224,6 @@ followed n pages heads next frame c (Some g) m = linked_at n pages next c g m.ch
 low_limit : (test : ℕ → Bool) (low n : ℕ) (above : Option ℕ) → low < n → IsAbove test low n above → low < limit above n
 low_limit test low n None lt gap = lt
 low_limit test low n (Some g) lt gap = gap.0
-
-limit_fits : (test : ℕ → Bool) (low n : ℕ) (above : Option ℕ) → IsAbove test low n above → limit above n ≤ n
-limit_fits test low n None gap = omega arith
-limit_fits test low n (Some g) gap = let lt : g < n = gap.1 in omega arith
 
 not_itself : (test : ℕ → Bool) (low n : ℕ) (above : Option ℕ) → IsAbove test low n above → (g : ℕ) → above ≡ Some g → low ≡ g → ⊥
 not_itself test low n None gap g e same = let bad : None ≡ Some g = e in cc

@@ -4,13 +4,13 @@ use Rattle.std.specs.List.{count_by, sum_by}
 use Rattle.std.specs.Option.{option_map}
 use Rattle.std.proofs.lemmas.Bool.{false≢true, cases_eq, cases_lt, cases_Bool, cond-true, cond-false}
 use Rattle.std.proofs.lemmas.List.{get_or_past, get_or-set_same, get_or-set_other, set-get_or, set-set, map-set, length-take-le, length-drop, length-replicate}
-use Rattle.std.proofs.lemmas.List.Sums.{sum_by-set, count_by-le-length, length-filter}
+use Rattle.std.proofs.lemmas.List.Sums.{sum_by-set, count_by-le-length}
 use Rattle.isp_page.specs.declared.page.Page.{Page}
-use Rattle.isp_page.specs.declared.page.PageNo.{PageNo}
-use Rattle.isp_recency.specs.Recent.{RecencyList, IsRecency, has, without}
+use Rattle.isp_base.specs.declared.page_no.PageNo.{PageNo}
+use Rattle.isp_recency.specs.Recent.{RecencyList, has, without}
 use Rattle.isp_recency.proofs.RecentLaws.{has_first, has_later, has_without, has_cases}
 use Rattle.isp_pool.specs.declared.frames.Frame.{Frame}
-use Rattle.isp_pool.specs.Frames.{PoolState, IsPool, frame_in, frame_at, is_held, page_of, is_dirty, is_pinned, is_unpinned, is_cleanable, edited, with_frame, changed, overwritten, fresh_frame, IsFirstFree, one_if}
+use Rattle.isp_pool.specs.Frames.{PoolState, frame_in, frame_at, is_held, page_of, is_dirty, is_pinned, is_unpinned, is_cleanable, edited, with_frame, changed, overwritten, fresh_frame, IsFirstFree, one_if}
 use Rattle.isp_pool.specs.Kept.{Keeps}
 
 -- a frame that holds a page is one of them, and what it holds
@@ -227,18 +227,6 @@ all_free n frames pages recency unpinned cleanable some many f p r u c =
       first = record { within = omega arith; held = λ j low. absurd (omega arith); free = λ low. free 0 };
     }
 
--- what callers are told of every pool
-pub every_pool : (frames : List (Option Frame)) (pages : List (Option PageNo)) (recency : RecencyList) (unpinned cleanable : List Bool) (dirty fresh : ℕ)
-    → Keeps frames pages recency unpinned cleanable dirty fresh → IsRecency recency → IsPool (record { frames = frames; recent = recency.members })
-every_pool frames pages recency unpinned cleanable dirty fresh k r = record {
-  least = subst (λ n. 0 < n) k.size r.least;
-  most = subst (λ n. n ≤ 4096) k.size r.most;
-  distinct = k.distinct;
-  recent = k.recent;
-  once = r.distinct;
-  whole = k.whole;
-}
-
 -- at most all frames are dirty, and one is where one is
 pub few_dirty : (frames : List (Option Frame)) (pages : List (Option PageNo)) (recency : RecencyList) (unpinned cleanable : List Bool) (dirty fresh : ℕ)
     → Keeps frames pages recency unpinned cleanable dirty fresh → dirty ≤ length frames
@@ -251,10 +239,6 @@ some_passes (o ∷ os) (suc i) h =
     ⊎_elim (λ t. subst (λ (fs : List (Option Frame)). 0 < length fs) (sym (cond-true (is_dirty o) (o ∷ filter is_dirty os) (filter is_dirty os) t)) (omega arith))
     (λ f. subst (λ (fs : List (Option Frame)). 0 < length fs) (sym (cond-false (is_dirty o) (o ∷ filter is_dirty os) (filter is_dirty os) f)) (some_passes os i h))
     (cases_Bool (is_dirty o))
-
-pub one_dirty : (frames : List (Option Frame)) (pages : List (Option PageNo)) (recency : RecencyList) (unpinned cleanable : List Bool) (dirty fresh : ℕ)
-    → Keeps frames pages recency unpinned cleanable dirty fresh → (i : ℕ) → is_dirty (frame_in frames i) ≡ true → 0 < dirty
-one_dirty frames pages recency unpinned cleanable dirty fresh k i h = subst (λ n. 0 < n) (sym k.changed) (subst (λ n. 0 < n) (length-filter is_dirty frames) (some_passes frames i h))
 
 -- a change in its two steps
 pub changed_by : (s : PoolState) (i at : ℕ) (bytes : List ℕ) (b : Bool) → i < length s.frames → b ≡ is_pinned (frame_at s i)

@@ -1,6 +1,6 @@
 -- Chains of frames by page number: the pages by frame, and where each chain begins and goes on. A chain's frames fall.
 use Rattle.std.specs.Prelude.{ℕ, ◌≡◌, ◌≢◌, ◌<◌, ◌==◌, ◌%◌, Bool, true, false, Option, Some, None, List, length, slice_index_or, slice_set}
-use Rattle.isp_page.specs.declared.page.PageNo.{PageNo}
+use Rattle.isp_base.specs.declared.page_no.PageNo.{PageNo}
 
 -- the page of a frame
 abbrev pub page_of_frame : List (Option PageNo) → ℕ → Option PageNo
@@ -14,6 +14,10 @@ falls chains chain (Some p) = (p.0 % chains) == chain
 -- the frame has a page of the chain, of so many chains
 abbrev pub in_chain : ℕ → List (Option PageNo) → ℕ → ℕ → Bool
 in_chain chains pages chain i = falls chains chain (page_of_frame pages i)
+
+-- the frame has a page of that page's chain, where there are as many chains as frames
+abbrev pub in_its_chain : List (Option PageNo) → PageNo → ℕ → Bool
+in_its_chain pages p = in_chain (length pages) pages (p.0 % length pages)
 
 -- the last number below a bound that passes a test
 abbrev pub IsLast : (ℕ → Bool) → ℕ → Option ℕ → Type 0

@@ -3,7 +3,7 @@ use Rattle.std.specs.Prelude.{ℕ, ◌≡◌, ◌+◌, ◌<◌, ◌≤◌, Bool,
 use Rattle.std.specs.List.{IsDistinct}
 use Rattle.std.specs.Option.{option_map, option_or}
 use Rattle.isp_page.specs.declared.page.Page.{Page}
-use Rattle.isp_page.specs.declared.page.PageNo.{PageNo}
+use Rattle.isp_base.specs.declared.page_no.PageNo.{PageNo}
 use Rattle.isp_recency.specs.Recent.{has, without, last_where}
 use Rattle.isp_pool.specs.declared.frames.Frame.{Frame}
 
@@ -56,9 +56,26 @@ edited frames i edit = slice_set frames i (option_map edit (frame_in frames i))
 abbrev pub with_frame : PoolState → ℕ → (Frame → Frame) → PoolState
 with_frame s i edit = record { frames = edited s.frames i edit; recent = s.recent }
 
+-- what a frame is good for: it holds the page; it may take another; its page may be written in its place
+abbrev pub HoldsPage : PoolState → PageNo → ℕ → Type 0
+HoldsPage s p i = (is_held (frame_at s i) ≡ true) × (page_of (frame_at s i) ≡ Some p)
+
+abbrev pub MayGo : PoolState → ℕ → Type 0
+MayGo s i = (i < length s.frames) × (is_pinned (frame_at s i) ≡ false)
+
+abbrev pub MayBeCleaned : PoolState → ℕ → Type 0
+MayBeCleaned s i = (is_held (frame_at s i) ≡ true) × (is_dirty (frame_at s i) ≡ true) × (is_pinned (frame_at s i) ≡ false)
+
 -- bytes over those of a list, from a place on
 abbrev pub overwritten : List ℕ → ℕ → List ℕ → List ℕ
 overwritten xs at bytes = take at xs ++ (bytes ++ drop (at + length bytes) xs)
+
+-- a frame with bytes written over those of its page; with these flags
+abbrev pub rewritten : ℕ → List ℕ → Frame → Frame
+rewritten at bytes f = record f { content = record { bytes = overwritten f.content.bytes at bytes } }
+
+abbrev pub flagged : Bool → Bool → Frame → Frame
+flagged dirty pinned f = record f { dirty = dirty; pinned = pinned }
 
 -- what the calls leave
 abbrev pub fresh_frame : PageNo → Page → Frame

@@ -1,6 +1,6 @@
 -- What a pool keeps beside its frames: how each part follows from them.
 use Rattle.std.specs.Prelude.{ℕ, ◌≡◌, ◌≤◌, Bool, Option, Some, List, length, map, count_by}
-use Rattle.isp_page.specs.declared.page.PageNo.{PageNo}
+use Rattle.isp_base.specs.declared.page_no.PageNo.{PageNo}
 use Rattle.isp_recency.specs.Recent.{RecencyList, has}
 use Rattle.isp_pool.specs.declared.frames.Frame.{Frame}
 use Rattle.isp_pool.specs.Frames.{frame_in, is_held, page_of, is_dirty, is_unpinned, is_cleanable, IsFirstFree}

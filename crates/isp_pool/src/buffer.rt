@@ -2,7 +2,7 @@
 
 ghost use Rattle.std.specs.Prelude.{◌≡◌, ◌≢◌, ℕ, ◌+◌, ◌<◌, ◌≤◌, ◌↔◌, Bool, true, false, not, ◌&&◌, IsTrue, IfOk, IfSome, Some, None, [], ◌∷◌, length, replicate, count_by, slice_set};
 ghost use Rattle.isp_recency.specs.Recent.{has, without, last_where};
-ghost use Rattle.isp_pool.specs.Frames.{PoolState, IsPool, frame_at, page_of, content_of, is_held, is_dirty, is_pinned, is_unpinned, is_cleanable, fresh_frame, loaded, with_frame, overwritten, one_if, changed, used, victim_of};
+ghost use Rattle.isp_pool.specs.Frames.{PoolState, IsPool, frame_at, page_of, content_of, is_held, is_dirty, is_pinned, is_unpinned, is_cleanable, fresh_frame, loaded, with_frame, one_if, changed, used, victim_of, HoldsPage, MayGo, MayBeCleaned, rewritten, flagged};
 
 use crate::Frame;
 use crate::by_page::Chains;
@@ -38,7 +38,8 @@ impl Model for Pool {
 
     ghost view = { λ p. record { frames = p.frames.items; recent = p.recency.members } };
 
-    ghost invariant = { λ p. Keeps p.frames.items p.chains p.recency p.unpinned.items p.cleanable.items p.dirty p.fresh };
+    ghost invariant = { λ p. Keeps p.frames.items p.chains p.recency p.unpinned.items
+        p.cleanable.items p.dirty p.fresh };
 }
 
 impl Pool {
@@ -74,7 +75,7 @@ impl Pool {
 
     /// The frame that holds the page; None exactly where no frame does. It looks at the frames of one chain alone.
     pub fn find(&self, p: PageNo) -> Option<usize>
-        ensures found { IfSome result (λ frame. (is_held (frame_at self.now frame) ≡ true) × (page_of (frame_at self.now frame) ≡ Some p)) }
+        ensures found { IfSome result (HoldsPage self.now p) }
         ensures none { result ≡ None → (frame : ℕ) → page_of (frame_at self.now frame) ≢ Some p }
     {
         self.chains.find(p)
@@ -84,8 +85,9 @@ impl Pool {
     /// where all are pinned.
     pub fn victim(&self) -> Option<usize>
         ensures which { result ≡ victim_of self.now }
-        ensures unpinned { IfSome result (λ frame. (frame < length self.now.frames) × (is_pinned (frame_at self.now frame) ≡ false)) }
-        ensures none { result ≡ None → (frame : ℕ) → frame < length self.now.frames → is_pinned (frame_at self.now frame) ≡ true }
+        ensures unpinned { IfSome result (MayGo self.now) }
+        ensures none { result ≡ None → (frame : ℕ) → frame < length self.now.frames
+            → is_pinned (frame_at self.now frame) ≡ true }
     {
         if self.fresh < self.frames.len() {
             return Some(self.fresh);
@@ -202,9 +204,11 @@ impl Pool {
 
     /// The last frame of the order of use that is dirty and unpinned; None exactly where no dirty one is unpinned.
     pub fn last_dirty(&self) -> Option<usize>
-        ensures which { result ≡ last_where (λ frame. is_cleanable (frame_at self.now frame)) self.now.recent }
-        ensures dirty { IfSome result (λ frame. (is_held (frame_at self.now frame) ≡ true) × (is_dirty (frame_at self.now frame) ≡ true) × (is_pinned (frame_at self.now frame) ≡ false)) }
-        ensures none { result ≡ None → (frame : ℕ) → is_dirty (frame_at self.now frame) ≡ true → is_pinned (frame_at self.now frame) ≡ true }
+        ensures which { result
+            ≡ last_where (λ frame. is_cleanable (frame_at self.now frame)) self.now.recent }
+        ensures dirty { IfSome result (MayBeCleaned self.now) }
+        ensures none { result ≡ None → (frame : ℕ) → is_dirty (frame_at self.now frame) ≡ true
+            → is_pinned (frame_at self.now frame) ≡ true }
     {
         self.recency.last_where_free(&self.cleanable)
     }
@@ -220,7 +224,7 @@ impl Pool {
     fn write(&mut self, frame: usize, at: usize, bytes: &[u8])
         requires held { is_held (frame_at self.old frame) ≡ true }
         requires range { at + length bytes.now ≤ 4096 }
-        ensures { self.new ≡ with_frame self.old frame (λ f. record f { content = record { bytes = overwritten f.content.bytes at bytes.now } }) }
+        ensures { self.new ≡ with_frame self.old frame (rewritten at bytes.now) }
     {
         overwrite(&mut self.frames, frame, at, bytes);
     }
@@ -228,7 +232,7 @@ impl Pool {
     // Sets both flags of a frame.
     fn mark(&mut self, frame: usize, dirty: bool, pinned: bool)
         requires { is_held (frame_at self.old frame) ≡ true }
-        ensures { self.new ≡ with_frame self.old frame (λ f. record f { dirty = dirty; pinned = pinned }) }
+        ensures { self.new ≡ with_frame self.old frame (flagged dirty pinned) }
     {
         let was = self.is_dirty(frame);
         self.dirty = recount(self.dirty, was, dirty);
@@ -271,7 +275,8 @@ fn recount(count: u32, was: bool, is: bool) -> u32
 fn bring_forward(recency: &mut Recency, i: usize, there: bool)
     requires below { i < recency.old.size }
     requires there { has recency.old.members i ≡ there }
-    ensures { recency.new ≡ record { size = recency.old.size; members = i ∷ without recency.old.members i } }
+    ensures { recency.new
+        ≡ record { size = recency.old.size; members = i ∷ without recency.old.members i } }
 {
     if there {
         recency.touch(i);

@@ -4,7 +4,7 @@
 //! along it comes to its end.
 
 ghost use Rattle.std.specs.Prelude.{◌≡◌, ℕ, ◌%◌, ◌<◌, ◌≤◌, ◌↔◌, IsTrue, IfOk, Some, None, length, replicate, slice_index_or, slice_set};
-ghost use Rattle.isp_pool.specs.Chains.{in_chain, IsFound, IsAbove, IsLast, AreLinked, follower, start_with, links_with, IsWithin};
+ghost use Rattle.isp_pool.specs.Chains.{in_its_chain, IsFound, IsAbove, IsLast, AreLinked, follower, start_with, links_with, IsWithin};
 
 use crate::empty::all_none;
 use isp_page::PageNo;
@@ -23,7 +23,7 @@ pub(crate) struct Chains {
 
 impl Model for Chains {
     ghost use Rattle.std.specs.Prelude.{List, Option, length};
-    ghost use Rattle.isp_page.specs.declared.page.PageNo.{PageNo};
+    ghost use Rattle.isp_base.specs.declared.page_no.PageNo.{PageNo};
 
     ghost Value = { List (Option PageNo) };
 
@@ -31,7 +31,8 @@ impl Model for Chains {
 
     ghost view = { λ c. c.pages.items };
 
-    ghost invariant = { λ c. IsChained (length c.pages.items) c.pages.items c.heads.items c.next.items };
+    ghost invariant = { λ c. IsChained (length c.pages.items) c.pages.items
+        c.heads.items c.next.items };
 }
 
 impl Chains {
@@ -108,7 +109,7 @@ fn find_from(
     p: PageNo,
 ) -> Option<usize>
     requires linked { AreLinked (length pages.now) pages.now next.now }
-    requires start { IsLast (in_chain (length pages.now) pages.now (p.0 % length pages.now)) (length pages.now) start }
+    requires start { IsLast (in_its_chain pages.now p) (length pages.now) start }
     ensures { IsFound pages.now p result }
 {
     let mut at = start;
@@ -130,8 +131,8 @@ fn above(
     p: PageNo,
 ) -> Option<usize>
     requires linked { AreLinked (length pages.now) pages.now next.now }
-    requires start { IsLast (in_chain (length pages.now) pages.now (p.0 % length pages.now)) (length pages.now) start }
-    ensures { IsAbove (in_chain (length pages.now) pages.now (p.0 % length pages.now)) frame (length pages.now) result }
+    requires start { IsLast (in_its_chain pages.now p) (length pages.now) start }
+    ensures { IsAbove (in_its_chain pages.now p) frame (length pages.now) result }
 {
     let mut above = None;
     let mut at = start;

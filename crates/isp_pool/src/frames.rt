@@ -1,13 +1,13 @@
 //! A frame, and writes into frames.
 
 ghost use Rattle.std.specs.Prelude.{◌≡◌, ℕ, ◌+◌, ◌<◌, ◌≤◌, true, None, length, slice_index_or, slice_set};
-ghost use Rattle.isp_pool.specs.Frames.{edited, overwritten, frame_in, is_held, IsFirstFree};
+ghost use Rattle.isp_pool.specs.Frames.{edited, flagged, frame_in, is_held, rewritten, IsFirstFree};
 
 use isp_page::{Page, PageNo};
 
 /// What a frame holds that isn't free: a page, its bytes, whether they differ from those of the file, and whether the page has to
 /// stay.
-#[derive(Clone, Copy, Debug)]
+#[derive(Clone, Copy)]
 pub struct Frame {
     pub page: PageNo,
     pub content: Page,
@@ -18,7 +18,7 @@ pub struct Frame {
 // Sets both flags.
 pub(crate) fn set_flags(frames: &mut Vec<Option<Frame>>, frame: usize, dirty: bool, pinned: bool)
     requires { frame < length frames.old.items }
-    ensures { frames.new.items ≡ edited frames.old.items frame (λ f. record f { dirty = dirty; pinned = pinned }) }
+    ensures { frames.new.items ≡ edited frames.old.items frame (flagged dirty pinned) }
 {
     if let Some(held) = &mut frames[frame] {
         held.dirty = dirty;
@@ -30,7 +30,7 @@ pub(crate) fn set_flags(frames: &mut Vec<Option<Frame>>, frame: usize, dirty: bo
 pub(crate) fn overwrite(frames: &mut Vec<Option<Frame>>, frame: usize, at: usize, bytes: &[u8])
     requires below { frame < length frames.old.items }
     requires range { at + length bytes.now ≤ 4096 }
-    ensures { frames.new.items ≡ edited frames.old.items frame (λ f. record f { content = record { bytes = overwritten f.content.bytes at bytes.now } }) }
+    ensures { frames.new.items ≡ edited frames.old.items frame (rewritten at bytes.now) }
 {
     if let Some(held) = &mut frames[frame] {
         held.content.bytes[at..at + bytes.len()].copy_from_slice(bytes);

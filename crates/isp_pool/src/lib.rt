@@ -14,8 +14,6 @@ mod buffer;
 mod by_page;
 mod empty;
 mod frames;
-#[cfg(test)]
-mod tests;
 
 pub use buffer::Pool;
 pub use frames::Frame;

@@ -17,10 +17,6 @@ has_later i x xs h = or_right (nat_eq i x) (has xs i) h
 pub has_cases : (i x : ℕ) (xs : List ℕ) → has (x ∷ xs) i ≡ true → (i ≡ x) ⊎ (has xs i ≡ true)
 has_cases i x xs h = ⊎_elim (λ here. inl (eqb-true i x here)) (λ there. inr there) (or_cases (nat_eq i x) (has xs i) h)
 
--- who isn't in a list isn't its first nor in the rest
-pub lacks_rest : (i x : ℕ) (xs : List ℕ) → has (x ∷ xs) i ≡ false → has xs i ≡ false
-lacks_rest i x xs h = (or_parts (nat_eq i x) (has xs i) h).1
-
 -- the list without its first is the rest without it, or with the first before it
 without_same : (i x : ℕ) (xs : List ℕ) → x ≡ i → without (x ∷ xs) i ≡ without xs i
 without_same i x xs e = cond-false (not (nat_eq x i)) (x ∷ without xs i) (without xs i) (not_from_true (nat_eq x i) (eq-eqb x i e))

@@ -25,7 +25,8 @@ impl Model for Recency {
 
     ghost view = { λ r. record { size = r.size; members = r.members.items } };
 
-    ghost invariant = { λ r. (r.size ≤ deque_capacity r.members) × IsRecency (record { size = r.size; members = r.members.items }) };
+    ghost invariant = { λ r. (r.size ≤ deque_capacity r.members)
+        × IsRecency (record { size = r.size; members = r.members.items }) };
 }
 
 impl Recency {
@@ -59,7 +60,8 @@ impl Recency {
     /// A number that is there goes to the front.
     pub fn touch(&mut self, i: usize)
         requires { has self.old.members i ≡ true }
-        ensures { self.new ≡ record { size = self.old.size; members = i ∷ without self.old.members i } }
+        ensures { self.new
+            ≡ record { size = self.old.size; members = i ∷ without self.old.members i } }
     {
         self.remove(i);
         self.push_front(i);
@@ -68,7 +70,8 @@ impl Recency {
     /// A number that is there goes away.
     pub fn remove(&mut self, i: usize)
         requires { has self.old.members i ≡ true }
-        ensures list { self.new ≡ record { size = self.old.size; members = without self.old.members i } }
+        ensures list { self.new
+            ≡ record { size = self.old.size; members = without self.old.members i } }
         ensures below { i < self.old.size }
     {
         if let Some(place) = place_of(&self.members, i) {

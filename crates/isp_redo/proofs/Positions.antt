@@ -1,5 +1,5 @@
 -- Reading the log from a place on: what is there is one, and is what the log's own definitions say.
-use Rattle.std.proofs.Common.{◌≡◌, true, ◌&&◌, nat_le, nat_lt, ℕ, zero, suc, ◌+◌, ◌-◌, ◌^◌, ◌<◌, ◌≤◌, List, [], ◌∷◌, ◌++◌, length, refl, sym, ◌∙◌, ap, subst, arith}
+use Rattle.std.proofs.Common.{◌≡◌, true, ◌&&◌, nat_le, nat_lt, ℕ, suc, ◌+◌, ◌-◌, ◌^◌, ◌<◌, ◌≤◌, List, [], ◌∷◌, ◌++◌, length, refl, sym, ◌∙◌, ap, subst, arith}
 use Rattle.std.proofs.lemmas.Bool.Decides.{nat_tests}
 use Rattle.std.specs.Prelude.{All}
 use Rattle.std.specs.List.{flat_map}
@@ -10,8 +10,9 @@ use Rattle.isp_disk.specs.Moments.{Image, slice}
 use Rattle.isp_format.specs.Log.{IsBatch, IsLog, IsTransaction, Transaction, log_bytes, range_bytes, transaction_bytes}
 use Rattle.isp_format.specs.Numbers.{bytes_of}
 use Rattle.isp_format.specs.Ranges.{IsRange, Range}
-use Rattle.isp_format.proofs.LogOnce.{batch_once, cut, number_once}
+use Rattle.isp_format.proofs.LogOnce.{batch_once, number_once}
 use Rattle.isp_format.proofs.LogWalks.{IsWalk}
+use Rattle.isp_format.proofs.Parts.{slice_cut, slice_parts}
 use Rattle.isp_format.proofs.Slices.{length-slice}
 use Rattle.isp_redo.specs.Reading.{AreRangesAt, AreTransactionsAt, IsRangeAt, IsTransactionAt}
 
@@ -115,22 +116,6 @@ transactions_on pages log at [] place t next are is = (next, subst (λ (p : ℕ)
 transactions_on pages log at (x ∷ xs) place t next (mid, first, more) is = (mid, first, transactions_on pages log mid xs place t next more is)
 
 -- ---- the same by their bytes
-
-pub slice_parts : (log : Image) (at first second : ℕ) → slice log at (first + second) ≡ slice log at first ++ slice log (at + first) second
-slice_parts log at zero second =
-    let none : zero + second ≡ second = omega arith in
-    let start : at ≡ at + zero = omega arith in
-    ap (slice log at) none ∙ ap (λ (p : ℕ). slice log p second) start
-slice_parts log at (suc first) second =
-    let more : suc first + second ≡ suc (first + second) = omega arith in
-    let on : suc at + first ≡ at + suc first = omega arith in
-    ap (slice log at) more ∙ (λ i. log at ∷ (slice_parts log (suc at) first second ∙ ap (λ (p : ℕ). slice log (suc at) first ++ slice log p second) on) i)
-
--- a slice that is two lists in a row
-pub slice_cut : (log : Image) (at : ℕ) (first second : List ℕ) (size : ℕ) → slice log at size ≡ first ++ second → size ≡ length first + length second → (slice log at (length first) ≡ first) × (slice log (at + length first) (length second) ≡ second)
-slice_cut log at first second size same long =
-    let parts : slice log at (length first) ++ slice log (at + length first) (length second) ≡ first ++ second = sym (slice_parts log at (length first) (length second)) ∙ ap (slice log at) (sym long) ∙ same in
-    cut (slice log at (length first)) first (slice log (at + length first) (length second)) second (length-slice log at (length first)) parts
 
 range_length : (range : Range) → length (range_bytes range) ≡ 8 + length range.bytes
 range_length range =

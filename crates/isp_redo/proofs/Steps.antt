@@ -4,12 +4,11 @@ use Rattle.std.proofs.lemmas.Bool.Decides.{nat_tests}
 use Rattle.isp_disk.specs.Moments.{Image, Agree, Within, in_range, slice}
 use Rattle.isp_disk.proofs.Moments.{agree_wider, agree_on}
 use Rattle.isp_format.specs.Log.{IsBatch, IsBody, IsLog, Transaction, log_bytes, log_of, log_place}
-use Rattle.isp_format.specs.Numbers.{bytes_of}
 use Rattle.isp_format.proofs.LogWalks.{SameOn, log_same, one_more, closed, walked, walk_same, walk_ends}
 use Rattle.isp_format.proofs.Offsets.{range_within}
 use Rattle.isp_format.proofs.Places.{above, below as before_start}
 use Rattle.isp_format.proofs.Slices.{slice_moved}
-use Rattle.isp_redo.specs.Changes.{HasLogOf, in_log}
+use Rattle.isp_redo.specs.Changes.{HasBody, HasLogOf, in_log}
 
 -- the log before a range that was written is the same
 before_range : (old left : Image) (at size end : ℕ) → Agree (in_range (log_place + at) size) old left → end ≤ at → SameOn (log_of old) (log_of left) 0 end
@@ -28,7 +27,7 @@ kept_behind pages old left batches end size is agree =
     let length_is : suc end - 0 ≡ end + 1 = omega arith in
     log_same pages (log_of old) (log_of left) 0 batches end is (subst (λ (n : ℕ). SameOn (log_of old) (log_of left) 0 n) (sym length_is) (before_range old left (end + 1) size (end + 1) moved (omega arith)))
 
-pub behind_has : (pages : ℕ) (old left : Image) (batches batches_now : List (List Transaction)) (end size end_now : ℕ) → IsLog pages (log_of old) 0 batches end → end + 1 + size ≤ log_bytes → Agree (in_range (log_place + end + 1) size) old left → HasLogOf pages old batches end batches_now end_now left
+pub behind_has : (pages : ℕ) (old left : Image) (batches batches_now : List (List Transaction)) (end size end_now : ℕ) → IsLog pages (log_of old) 0 batches end → end + 1 + size ≤ log_bytes → Agree (in_range (log_place + end + 1) size) old left → HasLogOf pages old (record { batches = batches; end = end }) (record { batches = batches_now; end = end_now }) left
 behind_has pages old left batches batches_now end size end_now is inside agree =
     let place : log_place + end + 1 ≡ log_place + (end + 1) = omega arith in
     let moved = subst (λ (at : ℕ). Agree (in_range at size) old left) place agree in
@@ -52,9 +51,7 @@ behind_byte old left at place size agree behind k inside = agree (place + k) (ab
 -- closed gate.
 pub record IsLaid (old mid : Image) (end : ℕ) (body : List ℕ) : Type 0 where
   pub others : Agree (in_range (log_place + end + 1) (length body + 5)) old mid
-  pub size : slice mid (log_place + end + 1) 4 ≡ bytes_of 4 (length body)
-  pub stands : slice mid (log_place + end + 5) (length body) ≡ body
-  pub gate : mid (log_place + end + 5 + length body) ≡ 0
+  pub has : HasBody mid (log_place + end) body
 
 -- a body that was laid, once the gate before it is opened, is a batch
 batch_opened : (pages : ℕ) (old mid left : Image) (end : ℕ) (batch : List Transaction) (body : List ℕ) → end + 5 + length body < log_bytes → IsBody pages batch body
@@ -69,11 +66,11 @@ batch_opened pages old mid left end batch body inside means is agree opened =
       size =
           log_slice left (end + 1) 4 ∙ ap (λ (place : ℕ). slice left place 4) size_place
           ∙ sym (slice_moved mid left (log_place + end + 1) (log_place + end + 1) 4 (behind_byte mid left (log_place + end) (log_place + end + 1) 4 agree (omega arith)))
-          ∙ is.size;
+          ∙ is.has.size;
       stands =
           log_slice left (end + 5) (length body) ∙ ap (λ (place : ℕ). slice left place (length body)) body_place
           ∙ sym (slice_moved mid left (log_place + end + 5) (log_place + end + 5) (length body) (behind_byte mid left (log_place + end) (log_place + end + 5) (length body) agree (omega arith)))
-          ∙ is.stands;
+          ∙ is.has.stands;
       behind = refl;
       inside = inside;
       means = means;
@@ -86,7 +83,7 @@ pub opened_is : (pages : ℕ) (old mid left : Image) (batches : List (List Trans
 opened_is pages old mid left batches end batch body log inside means is agree opened =
     let next = end + 5 + length body in
     let next_place : log_place + next ≡ log_place + end + 5 + length body = omega arith in
-    let shut : left (log_place + next) ≡ 0 = ap left next_place ∙ sym (agree (log_place + end + 5 + length body) (above (log_place + end) 1 (log_place + end + 5 + length body) (omega arith))) ∙ is.gate in
+    let shut : left (log_place + next) ≡ 0 = ap left next_place ∙ sym (agree (log_place + end + 5 + length body) (above (log_place + end) 1 (log_place + end + 5 + length body) (omega arith))) ∙ is.has.gate in
     one_more pages (log_of mid) (log_of left) batches end batch next (kept_behind pages old mid batches end (length body + 5) log is.others)
     (before_range mid left end 1 end agree (omega arith))
     (batch_opened pages old mid left end batch body inside means is agree opened)
@@ -109,7 +106,7 @@ is_open b = elim (b == 1) as (λ t. (b == 1) ≡ t → (b ≡ 1) ⊎ (b ≢ 1)) 
 
 pub opened_has : (pages : ℕ) (old mid left : Image) (batches : List (List Transaction)) (end : ℕ) (batch : List Transaction) (body : List ℕ) → IsLog pages (log_of old) 0 batches end → end + 5 + length body < log_bytes → IsBody pages batch body
     → IsLaid old mid end body → Agree (in_range (log_place + end) 1) mid left
-    → HasLogOf pages old batches end (batches ++ batch ∷ []) (end + 5 + length body) left
+    → HasLogOf pages old (record { batches = batches; end = end }) (record { batches = batches ++ batch ∷ []; end = end + 5 + length body }) left
 opened_has pages old mid left batches end batch body log inside means is agree =
     let place : log_place + end + 1 ≡ log_place + (end + 1) = omega arith in
     let others = subst (λ (at : ℕ). Agree (in_range at (length body + 5)) old mid) place is.others in
@@ -137,7 +134,7 @@ still_same old left agree gate place = ⊎_elim
     is_gate : (place : ℕ) → (place ≡ log_place) ⊎ (in_range log_place 1 place ≡ false)
     is_gate place = elim (place == log_place) as (λ t. (place == log_place) ≡ t → (place ≡ log_place) ⊎ (in_range log_place 1 place ≡ false)) [ true ↦ λ t. inl (grind (arith, nat_tests, t)) | false ↦ λ t. inr (grind (arith, nat_tests, t)) ] refl
 
-pub reset_has : (pages : ℕ) (old left : Image) (batches : List (List Transaction)) (end : ℕ) → IsLog pages (log_of old) 0 batches end → end ≢ 0 → Agree (in_range log_place 1) old left → HasLogOf pages old batches end [] 0 left
+pub reset_has : (pages : ℕ) (old left : Image) (batches : List (List Transaction)) (end : ℕ) → IsLog pages (log_of old) 0 batches end → end ≢ 0 → Agree (in_range log_place 1) old left → HasLogOf pages old (record { batches = batches; end = end }) (record { batches = []; end = 0 }) left
 reset_has pages old left batches end log some agree =
     let opened : old log_place ≡ 1 = begins_open pages (log_of old) batches end log some in
     record {
@@ -148,8 +145,12 @@ reset_has pages old left batches end log some agree =
       others = agree_wider (in_range log_place 1) in_log old left (range_within log_place log_bytes log_place 1 (omega arith) (omega arith)) agree;
     }
 
+-- a log whose first gate is closed is empty
+pub reset_is : (pages : ℕ) (left : Image) → left log_place ≡ 0 → IsLog pages (log_of left) 0 [] 0
+reset_is pages left shut = ((λ one. let none : ◌≡◌ {A = ℕ} 0 1 → ⊥ = λ e. omega (arith, e) in none (sym shut ∙ one)), refl)
+
 -- an image that is the same has the same log
-pub same_has : (pages : ℕ) (old left : Image) (batches batches_now : List (List Transaction)) (end end_now : ℕ) → IsLog pages (log_of old) 0 batches end → ((place : ℕ) → old place ≡ left place) → HasLogOf pages old batches end batches_now end_now left
+pub same_has : (pages : ℕ) (old left : Image) (batches batches_now : List (List Transaction)) (end end_now : ℕ) → IsLog pages (log_of old) 0 batches end → ((place : ℕ) → old place ≡ left place) → HasLogOf pages old (record { batches = batches; end = end }) (record { batches = batches_now; end = end_now }) left
 same_has pages old left batches batches_now end end_now log same = record {
   log = inl (log_same pages (log_of old) (log_of left) 0 batches end log (λ k below. same (log_place + (0 + k))));
   others = λ place out. same place;

@@ -7,7 +7,7 @@ use Rattle.isp_format.specs.Contents.{ranges_of}
 use Rattle.isp_format.specs.Log.{IsLog, Transaction, log_bytes}
 use Rattle.isp_format.specs.Ranges.{Range}
 use Rattle.isp_redo.specs.Reading.{AreRangesAt, AreTransactionsAt}
-use Rattle.isp_page.specs.declared.page.PageNo.{PageNo}
+use Rattle.isp_base.specs.declared.page_no.PageNo.{PageNo}
 use Rattle.isp_redo.specs.declared.ranges.Place.{Place}
 use Rattle.isp_redo.specs.declared.ranges.LogRange.{LogRange}
 

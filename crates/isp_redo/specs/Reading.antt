@@ -1,20 +1,11 @@
 -- The log as it is read, from a place on: ranges, mini-transactions and batches, each with the place behind it.
 use Rattle.std.specs.Prelude.{◌≡◌, ◌≢◌, ℕ, ◌+◌, ◌<◌, ◌≤◌, List, [], ◌∷◌, ◌++◌, length, Option, Some, None}
-use Rattle.isp_disk.specs.Moments.{Image, Quiet, Region, no_place, slice}
+use Rattle.isp_disk.specs.Moments.{Image, slice}
 use Rattle.isp_format.specs.Log.{IsBatch, IsLog, Transaction, log_bytes}
 use Rattle.isp_format.specs.Numbers.{bytes_of}
 use Rattle.isp_format.specs.Ranges.{IsRange, Range}
-use Rattle.isp_redo.specs.Changes.{ChangesOnly}
 use Rattle.isp_redo.specs.declared.scan.Step.{Step}
 use Rattle.isp_redo.specs.declared.scan.Step.TheVariants as step
-
--- The world was read, and nothing else: since old each stop leaves the bytes as they read, and nothing printed.
-pub record OnlyReads {W : Type 0} (clock : W → ℕ) (left_since : W → ℕ → Image → Option (List ℕ) → Type 0) (image : W → Image) (pending : W → Region) (printed : W → Option (List ℕ)) (print_faults : W → ℕ) (old new : W) : Type 0 where
-  pub leaves : ChangesOnly clock left_since image printed old new no_place
-  pub same : image new ≡ image old
-  pub quiet : Quiet (pending new)
-  pub told : printed new ≡ printed old
-  pub printer : print_faults new ≡ print_faults old
 
 -- a range, and the place behind it
 pub record IsRangeAt (pages : ℕ) (log : Image) (at : ℕ) (range : Range) (next : ℕ) : Type 0 where

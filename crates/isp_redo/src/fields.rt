@@ -1,11 +1,10 @@
 //! Reads of the log's fields.
 
-ghost use Rattle.std.specs.Prelude.{◌≡◌, ◌<◌, ◌≤◌, ◌++◌, length, IfOk, IsSome, OnOk};
+ghost use Rattle.std.specs.Prelude.{◌≡◌, ◌<◌, ◌≤◌, ◌++◌, length, IfOk, OnOk};
 ghost use Rattle.isp_disk.specs.Moments.{Quiet, slice};
-ghost use Rattle.isp_disk.specs.Outside.{HasCause};
+ghost use Rattle.isp_disk.specs.Phases.{OnlyReads};
 ghost use Rattle.isp_format.specs.Log.{log_bytes, log_of};
 ghost use Rattle.isp_format.specs.Numbers.{bytes_of};
-ghost use Rattle.isp_redo.specs.Reading.{OnlyReads};
 
 use isp_disk::{Failed, World};
 
@@ -27,9 +26,9 @@ pub struct Header {
 pub fn read_at<W: World>(world: &mut W, at: u64, into: &mut [u8]) -> Result<(), Failed>
     requires quiet { Quiet (W.pending world.old) }
     requires place { at ≤ log_bytes }
-    ensures bytes { IsSome (W.printed world.old) → OnOk result (into.new ≡ slice (log_of (W.image world.old)) at (length into.old)) }
-    ensures reads { OnlyReads W.clock W.left_since W.image W.pending W.printed W.print_faults world.old world.new }
-    ensures cause { HasCause (W.disk_faults world.old) (W.disk_faults world.new) result }
+    ensures bytes { W.tells
+        → OnOk result (into.new ≡ slice (log_of (W.image world.old)) at (length into.old)) }
+    ensures reads { OnlyReads W.World world.old world.new result }
 {
     world.read(LOG_PLACE + at, into)
 }
@@ -38,9 +37,8 @@ pub fn read_at<W: World>(world: &mut W, at: u64, into: &mut [u8]) -> Result<(), 
 pub fn read_gate<W: World>(world: &mut W, at: u64) -> Result<u8, Failed>
     requires quiet { Quiet (W.pending world.old) }
     requires place { at ≤ log_bytes }
-    ensures gate { IsSome (W.printed world.old) → IfOk result (λ gate. log_of (W.image world.old) at ≡ gate) }
-    ensures reads { OnlyReads W.clock W.left_since W.image W.pending W.printed W.print_faults world.old world.new }
-    ensures cause { HasCause (W.disk_faults world.old) (W.disk_faults world.new) result }
+    ensures gate { W.tells → IfOk result (λ gate. log_of (W.image world.old) at ≡ gate) }
+    ensures reads { OnlyReads W.World world.old world.new result }
 {
     let mut bytes = [0u8; 1];
     read_at(world, at, &mut bytes)?;
@@ -63,7 +61,8 @@ fn be_u16(bytes: &[u8; 2]) -> u16
 
 // The header in eight bytes.
 fn header_of(bytes: &[u8; 8]) -> Header
-    ensures { bytes.now ≡ bytes_of 4 result.page ++ (bytes_of 2 result.at ++ bytes_of 2 result.len) }
+    ensures { bytes.now
+        ≡ bytes_of 4 result.page ++ (bytes_of 2 result.at ++ bytes_of 2 result.len) }
 {
     let [a, b, c, d, e, f, g, h] = *bytes;
     Header {
@@ -77,10 +76,10 @@ fn header_of(bytes: &[u8; 8]) -> Header
 pub fn read_size<W: World>(world: &mut W, at: u64) -> Result<u32, Failed>
     requires quiet { Quiet (W.pending world.old) }
     requires place { at ≤ log_bytes }
-    ensures size { IsSome (W.printed world.old) → IfOk result (λ size. slice (log_of (W.image world.old)) at 4 ≡ bytes_of 4 size) }
+    ensures size { W.tells
+        → IfOk result (λ size. slice (log_of (W.image world.old)) at 4 ≡ bytes_of 4 size) }
     ensures few { IfOk result (λ size. size < 4294967296) }
-    ensures reads { OnlyReads W.clock W.left_since W.image W.pending W.printed W.print_faults world.old world.new }
-    ensures cause { HasCause (W.disk_faults world.old) (W.disk_faults world.new) result }
+    ensures reads { OnlyReads W.World world.old world.new result }
 {
     let mut bytes = [0u8; 4];
     read_at(world, at, &mut bytes)?;
@@ -91,10 +90,10 @@ pub fn read_size<W: World>(world: &mut W, at: u64) -> Result<u32, Failed>
 pub fn read_count<W: World>(world: &mut W, at: u64) -> Result<u16, Failed>
     requires quiet { Quiet (W.pending world.old) }
     requires place { at ≤ log_bytes }
-    ensures count { IsSome (W.printed world.old) → IfOk result (λ count. slice (log_of (W.image world.old)) at 2 ≡ bytes_of 2 count) }
+    ensures count { W.tells
+        → IfOk result (λ count. slice (log_of (W.image world.old)) at 2 ≡ bytes_of 2 count) }
     ensures few { IfOk result (λ count. count < 65536) }
-    ensures reads { OnlyReads W.clock W.left_since W.image W.pending W.printed W.print_faults world.old world.new }
-    ensures cause { HasCause (W.disk_faults world.old) (W.disk_faults world.new) result }
+    ensures reads { OnlyReads W.World world.old world.new result }
 {
     let mut bytes = [0u8; 2];
     read_at(world, at, &mut bytes)?;
@@ -105,11 +104,11 @@ pub fn read_count<W: World>(world: &mut W, at: u64) -> Result<u16, Failed>
 pub fn read_header<W: World>(world: &mut W, at: u64) -> Result<Header, Failed>
     requires quiet { Quiet (W.pending world.old) }
     requires place { at ≤ log_bytes }
-    ensures header { IsSome (W.printed world.old) → IfOk result (λ header. slice (log_of (W.image world.old)) at 8
+    ensures header { W.tells → IfOk result (λ header. slice (log_of (W.image world.old)) at 8
         ≡ bytes_of 4 header.page ++ (bytes_of 2 header.at ++ bytes_of 2 header.len)) }
-    ensures few { IfOk result (λ header. (header.page < 4294967296) × (header.at < 65536) × (header.len < 65536)) }
-    ensures reads { OnlyReads W.clock W.left_since W.image W.pending W.printed W.print_faults world.old world.new }
-    ensures cause { HasCause (W.disk_faults world.old) (W.disk_faults world.new) result }
+    ensures few { IfOk result (λ header.
+        (header.page < 4294967296) × (header.at < 65536) × (header.len < 65536)) }
+    ensures reads { OnlyReads W.World world.old world.new result }
 {
     let mut bytes = [0u8; 8];
     read_at(world, at, &mut bytes)?;

@@ -8,8 +8,6 @@ mod laws;
 mod log;
 mod ranges;
 mod scan;
-#[cfg(test)]
-mod tests;
 mod write;
 
 pub use laws::{law_all_ranges_lie_ahead, law_one_log};

@@ -1,12 +1,12 @@
 //! The log and where it ends.
 
-ghost use Rattle.std.specs.Prelude.{◌≡◌, ◌+◌, ◌<◌, ◌≤◌, ◌++◌, [], ◌∷◌, ℕ, List, length, nat_lt, IfOk, IfSome, IsSome, OnErr, OnOk};
+ghost use Rattle.std.specs.Prelude.{◌≡◌, ◌+◌, ◌<◌, ◌≤◌, [], ◌∷◌, ℕ, List, length, nat_lt, IfOk, IfSome};
 ghost use Rattle.std.specs.Option.{option_map};
-ghost use Rattle.isp_disk.specs.Moments.{Agree, LeavesOnly, Quiet};
-ghost use Rattle.isp_disk.specs.Outside.{HasCause};
-ghost use Rattle.isp_format.specs.Log.{IsBody, IsLog, Transaction, log_bytes, log_of};
-ghost use Rattle.isp_redo.specs.Changes.{HasLogOf, in_log};
-ghost use Rattle.isp_redo.specs.Reading.{FindsEnd, OnlyReads};
+ghost use Rattle.isp_disk.specs.Moments.{Quiet};
+ghost use Rattle.isp_disk.specs.Phases.{OnlyReads};
+ghost use Rattle.isp_format.specs.Log.{IsBody, Transaction, log_bytes, log_of};
+ghost use Rattle.isp_redo.specs.Changes.{ChangesLog, HasLog, MovesEnd, TurnsLog, with_batch};
+ghost use Rattle.isp_redo.specs.Reading.{FindsEnd};
 
 use crate::fields::LOG_PLACE;
 use crate::scan::scan_end;
@@ -30,10 +30,11 @@ impl Log {
         requires quiet { Quiet (W.pending world.old) }
         requires few { pages ≤ 65536 }
 
-        ensures found { IsSome (W.printed world.old) → IfOk result (λ log. FindsEnd pages (log_of (W.image world.old)) (option_map (λ l. l.end) log)) }
+        ensures found { W.tells
+            → IfOk result (λ log.
+            FindsEnd pages (log_of (W.image world.old)) (option_map (λ l. l.end) log)) }
         ensures inside { IfOk result (λ log. IfSome log (λ l. l.end < log_bytes)) }
-        ensures reads { OnlyReads W.clock W.left_since W.image W.pending W.printed W.print_faults world.old world.new }
-        ensures cause { HasCause (W.disk_faults world.old) (W.disk_faults world.new) result }
+        ensures reads { OnlyReads W.World world.old world.new result }
     {
         match scan_end(world, pages)? {
             Some(end) => Ok(Some(Log { end })),
@@ -57,20 +58,15 @@ impl Log {
         requires quiet { Quiet (W.pending world.old) }
         requires fits { self.old.end + 5 + length body.now < log_bytes }
 
-        ensures moments { IsSome (W.printed world.old) → (pages : ℕ) (batches : List (List Transaction)) (batch : List Transaction)
-            → IsLog pages (log_of (W.image world.old)) 0 batches self.old.end → IsBody pages batch body.now
-            → LeavesOnly W.clock W.left_since world.old world.new (λ left told. HasLogOf pages (W.image world.old) batches self.old.end
-            (batches ++ batch ∷ []) (self.old.end + 5 + length body.now) left × (told ≡ W.printed world.old)) }
-        ensures appended { IsSome (W.printed world.old) → (pages : ℕ) (batches : List (List Transaction)) (batch : List Transaction)
-            → IsLog pages (log_of (W.image world.old)) 0 batches self.old.end → IsBody pages batch body.now
-            → OnOk result (IsLog pages (log_of (W.image world.new)) 0 (batches ++ batch ∷ []) self.new.end) }
-        ensures others { Agree in_log (W.image world.old) (W.image world.new) }
-        ensures end { OnOk result (self.new.end ≡ self.old.end + 5 + length body.now) }
-        ensures kept { OnErr result (self.new ≡ self.old) }
-        ensures quiet { OnOk result (Quiet (W.pending world.new)) }
-        ensures printed { W.printed world.new ≡ W.printed world.old }
-        ensures cause { HasCause (W.disk_faults world.old) (W.disk_faults world.new) result }
-        ensures printer { W.print_faults world.new ≡ W.print_faults world.old }
+        ensures appended { W.tells
+            → (pages : ℕ) (batches : List (List Transaction)) (batch : List Transaction)
+            → HasLog pages (record { batches = batches; end = self.old.end }) (W.image world.old)
+            → IsBody pages batch body.now
+            → TurnsLog W.World pages (record { batches = batches; end = self.old.end })
+            (with_batch batches batch self.old.end (length body.now)) world.old world.new result }
+        ensures end { MovesEnd self.old.end (self.old.end + 5 + length body.now)
+            self.new.end result }
+        ensures changes { ChangesLog W.World world.old world.new result }
     {
         let gate = LOG_PLACE + self.end;
         lay_body(world, gate, body)?;
@@ -85,20 +81,12 @@ impl Log {
         requires quiet { Quiet (W.pending world.old) }
 
         ensures untouched { self.old.end ≡ 0 → world.new ≡ world.old }
-        ensures moments { IsSome (W.printed world.old) → (pages : ℕ) (batches : List (List Transaction))
-            → IsLog pages (log_of (W.image world.old)) 0 batches self.old.end
-            → LeavesOnly W.clock W.left_since world.old world.new (λ left told. HasLogOf pages (W.image world.old) batches self.old.end
-            [] 0 left × (told ≡ W.printed world.old)) }
-        ensures emptied { IsSome (W.printed world.old) → (pages : ℕ) (batches : List (List Transaction))
-            → IsLog pages (log_of (W.image world.old)) 0 batches self.old.end
-            → OnOk result (IsLog pages (log_of (W.image world.new)) 0 [] 0) }
-        ensures others { Agree in_log (W.image world.old) (W.image world.new) }
-        ensures end { OnOk result (self.new.end ≡ 0) }
-        ensures kept { OnErr result (self.new ≡ self.old) }
-        ensures quiet { OnOk result (Quiet (W.pending world.new)) }
-        ensures printed { W.printed world.new ≡ W.printed world.old }
-        ensures cause { HasCause (W.disk_faults world.old) (W.disk_faults world.new) result }
-        ensures printer { W.print_faults world.new ≡ W.print_faults world.old }
+        ensures emptied { W.tells → (pages : ℕ) (batches : List (List Transaction))
+            → HasLog pages (record { batches = batches; end = self.old.end }) (W.image world.old)
+            → TurnsLog W.World pages (record { batches = batches; end = self.old.end })
+            (record { batches = []; end = 0 }) world.old world.new result }
+        ensures end { MovesEnd self.old.end 0 self.new.end result }
+        ensures changes { ChangesLog W.World world.old world.new result }
     {
         if self.end == 0 {
             return Ok(());

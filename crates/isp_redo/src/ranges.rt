@@ -1,13 +1,12 @@
 //! The ranges of the log, one after the other.
 
-ghost use Rattle.std.specs.Prelude.{◌≡◌, ◌+◌, ◌*◌, ◌<◌, ◌≤◌, ℕ, List, IfOk, IfSome, IsSome, OnOk, nat_lt, nat_le, take, ◌&&◌};
+ghost use Rattle.std.specs.Prelude.{◌≡◌, ◌+◌, ◌*◌, ◌<◌, ◌≤◌, ℕ, List, IfOk, IfSome, OnOk, nat_lt, nat_le, take, ◌&&◌};
 ghost use Rattle.std.specs.Option.{option_map};
 ghost use Rattle.isp_disk.specs.Moments.{Quiet, slice};
-ghost use Rattle.isp_disk.specs.Outside.{HasCause};
+ghost use Rattle.isp_disk.specs.Phases.{OnlyReads};
 ghost use Rattle.isp_format.specs.Log.{log_bytes, log_of};
 ghost use Rattle.isp_format.specs.Ranges.{Range};
 ghost use Rattle.isp_redo.specs.Places.{GoesOn, IsAt, IsFurther, LeadsOn, LiesInPage, TakesRange, place_of};
-ghost use Rattle.isp_redo.specs.Reading.{OnlyReads};
 
 use crate::fields::{Header, LOG_BYTES, read_at, read_count, read_gate, read_header, read_size};
 use isp_disk::{Failed, World};
@@ -56,10 +55,11 @@ fn pack(place: Place) -> u64
 fn next_batch<W: World>(world: &mut W, end: u64) -> Result<Option<Place>, Failed>
     requires quiet { Quiet (W.pending world.old) }
     requires place { end < log_bytes }
-    ensures leads { IsSome (W.printed world.old) → (pages : ℕ) → pages ≤ 65536 → IfOk result (λ next. LeadsOn pages (log_of (W.image world.old)) (record { at = end; left = 0; end = end }) next) }
+    ensures leads { W.tells → (pages : ℕ) → pages ≤ 65536 → IfOk result (λ next.
+        LeadsOn pages (log_of (W.image world.old))
+        (record { at = end; left = 0; end = end }) next) }
     ensures onward { IfOk result (λ next. GoesOn (record { at = end; left = 0; end = end }) next) }
-    ensures reads { OnlyReads W.clock W.left_since W.image W.pending W.printed W.print_faults world.old world.new }
-    ensures cause { HasCause (W.disk_faults world.old) (W.disk_faults world.new) result }
+    ensures reads { OnlyReads W.World world.old world.new result }
 {
     if read_gate(world, end)? != 1 {
         return Ok(None);
@@ -82,10 +82,10 @@ fn next_batch<W: World>(world: &mut W, end: u64) -> Result<Option<Place>, Failed
 fn next_transaction<W: World>(world: &mut W, at: u64, end: u64) -> Result<Option<Place>, Failed>
     requires quiet { Quiet (W.pending world.old) }
     requires places { (at < end) × (end < log_bytes) }
-    ensures leads { IsSome (W.printed world.old) → (pages : ℕ) → pages ≤ 65536 → IfOk result (λ next. LeadsOn pages (log_of (W.image world.old)) (record { at = at; left = 0; end = end }) next) }
+    ensures leads { W.tells → (pages : ℕ) → pages ≤ 65536 → IfOk result (λ next.
+        LeadsOn pages (log_of (W.image world.old)) (record { at = at; left = 0; end = end }) next) }
     ensures onward { IfOk result (λ next. GoesOn (record { at = at; left = 0; end = end }) next) }
-    ensures reads { OnlyReads W.clock W.left_since W.image W.pending W.printed W.print_faults world.old world.new }
-    ensures cause { HasCause (W.disk_faults world.old) (W.disk_faults world.new) result }
+    ensures reads { OnlyReads W.World world.old world.new result }
 {
     if end - at < 2 {
         return Ok(None);
@@ -102,10 +102,10 @@ fn next_transaction<W: World>(world: &mut W, at: u64, end: u64) -> Result<Option
 fn onward<W: World>(world: &mut W, at: u64, end: u64) -> Result<Option<Place>, Failed>
     requires quiet { Quiet (W.pending world.old) }
     requires places { (at ≤ end) × (end < log_bytes) }
-    ensures leads { IsSome (W.printed world.old) → (pages : ℕ) → pages ≤ 65536 → IfOk result (λ next. LeadsOn pages (log_of (W.image world.old)) (record { at = at; left = 0; end = end }) next) }
+    ensures leads { W.tells → (pages : ℕ) → pages ≤ 65536 → IfOk result (λ next.
+        LeadsOn pages (log_of (W.image world.old)) (record { at = at; left = 0; end = end }) next) }
     ensures onward { IfOk result (λ next. GoesOn (record { at = at; left = 0; end = end }) next) }
-    ensures reads { OnlyReads W.clock W.left_since W.image W.pending W.printed W.print_faults world.old world.new }
-    ensures cause { HasCause (W.disk_faults world.old) (W.disk_faults world.new) result }
+    ensures reads { OnlyReads W.World world.old world.new result }
 {
     if at == end {
         next_batch(world, end)
@@ -130,9 +130,9 @@ fn fill<W: World>(
 ) -> Result<(), Failed>
     requires quiet { Quiet (W.pending world.old) }
     requires places { (at ≤ log_bytes) × (len ≤ 4096) }
-    ensures bytes { IsSome (W.printed world.old) → OnOk result (take len into.new ≡ slice (log_of (W.image world.old)) at len) }
-    ensures reads { OnlyReads W.clock W.left_since W.image W.pending W.printed W.print_faults world.old world.new }
-    ensures cause { HasCause (W.disk_faults world.old) (W.disk_faults world.new) result }
+    ensures bytes { W.tells
+        → OnOk result (take len into.new ≡ slice (log_of (W.image world.old)) at len) }
+    ensures reads { OnlyReads W.World world.old world.new result }
 {
     read_at(world, at, &mut into[..usize::from(len)])?;
     Ok(())
@@ -147,13 +147,14 @@ fn take<W: World>(
     requires quiet { Quiet (W.pending world.old) }
     requires places { (place.at ≤ place.end) × (place.end < log_bytes) }
     requires left { (0 < place.left) × (place.left < 65536) }
-    ensures found { IsSome (W.printed world.old) → (pages : ℕ) → pages ≤ 65536 → (ranges : List Range)
+    ensures found { W.tells → (pages : ℕ) → pages ≤ 65536 → (ranges : List Range)
         → IsAt pages (log_of (W.image world.old)) place ranges
-        → IfOk result (λ found. TakesRange pages (log_of (W.image world.old)) ranges into.new found) }
+        → IfOk result (λ found.
+        TakesRange pages (log_of (W.image world.old)) ranges into.new found) }
     ensures in_page { IfOk result (λ found. LiesInPage found) }
-    ensures onward { IfOk result (λ found. GoesOn place (option_map (λ range. place_of range.next) found)) }
-    ensures reads { OnlyReads W.clock W.left_since W.image W.pending W.printed W.print_faults world.old world.new }
-    ensures cause { HasCause (W.disk_faults world.old) (W.disk_faults world.new) result }
+    ensures onward { IfOk result (λ found.
+        GoesOn place (option_map (λ range. place_of range.next) found)) }
+    ensures reads { OnlyReads W.World world.old world.new result }
 {
     if place.end - place.at < 8 {
         return Ok(None);
@@ -187,13 +188,13 @@ pub fn read_range<W: World>(
     into: &mut [u8; PAGE_BYTES],
 ) -> Result<Option<LogRange>, Failed>
     requires quiet { Quiet (W.pending world.old) }
-    ensures found { IsSome (W.printed world.old) → (pages : ℕ) → pages ≤ 65536 → (ranges : List Range)
+    ensures found { W.tells → (pages : ℕ) → pages ≤ 65536 → (ranges : List Range)
         → IsAt pages (log_of (W.image world.old)) (place_of from) ranges
-        → IfOk result (λ found. TakesRange pages (log_of (W.image world.old)) ranges into.new found) }
+        → IfOk result (λ found.
+        TakesRange pages (log_of (W.image world.old)) ranges into.new found) }
     ensures in_page { IfOk result (λ found. LiesInPage found) }
     ensures onward { IfOk result (λ found. IsFurther from found) }
-    ensures reads { OnlyReads W.clock W.left_since W.image W.pending W.printed W.print_faults world.old world.new }
-    ensures cause { HasCause (W.disk_faults world.old) (W.disk_faults world.new) result }
+    ensures reads { OnlyReads W.World world.old world.new result }
 {
     let mut place = unpack(from);
     if place.at > place.end {

@@ -1,10 +1,10 @@
 //! The log read from its beginning to its end.
 
-ghost use Rattle.std.specs.Prelude.{◌≡◌, ◌+◌, ◌<◌, ◌≤◌, ◌&&◌, nat_le, nat_lt, IfOk, IfSome, IsSome};
+ghost use Rattle.std.specs.Prelude.{◌≡◌, ◌+◌, ◌<◌, ◌≤◌, ◌&&◌, nat_le, nat_lt, IfOk, IfSome};
 ghost use Rattle.isp_disk.specs.Moments.{Quiet};
-ghost use Rattle.isp_disk.specs.Outside.{HasCause};
+ghost use Rattle.isp_disk.specs.Phases.{OnlyReads};
 ghost use Rattle.isp_format.specs.Log.{log_bytes, log_of};
-ghost use Rattle.isp_redo.specs.Reading.{FindsBatch, FindsBody, FindsEnd, FindsRange, FindsTransaction, IsOnward, OnlyReads, StepsOn};
+ghost use Rattle.isp_redo.specs.Reading.{FindsBatch, FindsBody, FindsEnd, FindsRange, FindsTransaction, IsOnward, StepsOn};
 
 use crate::fields::{Header, LOG_BYTES, read_count, read_gate, read_header, read_size};
 use isp_disk::{Failed, World};
@@ -23,7 +23,8 @@ pub enum Step {
 
 // Whether a range with this header lies in a page of the file, and is one.
 fn is_range(header: Header, pages: u32) -> bool
-    ensures { result ≡ (nat_lt header.page pages && nat_lt 0 header.len && nat_le (header.at + header.len) 4096) }
+    ensures { result ≡ (nat_lt header.page pages && nat_lt 0 header.len
+        && nat_le (header.at + header.len) 4096) }
 {
     header.page < pages
         && header.len > 0
@@ -35,10 +36,10 @@ fn range_end<W: World>(world: &mut W, at: u64, end: u64, pages: u32) -> Result<O
     requires quiet { Quiet (W.pending world.old) }
     requires few { pages ≤ 65536 }
     requires places { (at ≤ end) × (end < log_bytes) }
-    ensures found { IsSome (W.printed world.old) → IfOk result (λ next. FindsRange pages (log_of (W.image world.old)) at end next) }
+    ensures found { W.tells
+        → IfOk result (λ next. FindsRange pages (log_of (W.image world.old)) at end next) }
     ensures onward { IfOk result (λ next. IsOnward at end next) }
-    ensures reads { OnlyReads W.clock W.left_since W.image W.pending W.printed W.print_faults world.old world.new }
-    ensures cause { HasCause (W.disk_faults world.old) (W.disk_faults world.new) result }
+    ensures reads { OnlyReads W.World world.old world.new result }
 {
     if end - at < 8 {
         return Ok(None);
@@ -61,10 +62,10 @@ fn transaction_end<W: World>(
     requires quiet { Quiet (W.pending world.old) }
     requires few { pages ≤ 65536 }
     requires places { (at ≤ end) × (end < log_bytes) }
-    ensures found { IsSome (W.printed world.old) → IfOk result (λ next. FindsTransaction pages (log_of (W.image world.old)) at end next) }
+    ensures found { W.tells
+        → IfOk result (λ next. FindsTransaction pages (log_of (W.image world.old)) at end next) }
     ensures onward { IfOk result (λ next. IsOnward at end next) }
-    ensures reads { OnlyReads W.clock W.left_since W.image W.pending W.printed W.print_faults world.old world.new }
-    ensures cause { HasCause (W.disk_faults world.old) (W.disk_faults world.new) result }
+    ensures reads { OnlyReads W.World world.old world.new result }
 {
     if end - at < 2 {
         return Ok(None);
@@ -85,10 +86,10 @@ fn body_end<W: World>(world: &mut W, at: u64, end: u64, pages: u32) -> Result<Op
     requires quiet { Quiet (W.pending world.old) }
     requires few { pages ≤ 65536 }
     requires places { (at ≤ end) × (end < log_bytes) }
-    ensures found { IsSome (W.printed world.old) → IfOk result (λ next. FindsBody pages (log_of (W.image world.old)) at end next) }
+    ensures found { W.tells
+        → IfOk result (λ next. FindsBody pages (log_of (W.image world.old)) at end next) }
     ensures end { IfOk result (λ next. IfSome next (λ next. next ≡ end)) }
-    ensures reads { OnlyReads W.clock W.left_since W.image W.pending W.printed W.print_faults world.old world.new }
-    ensures cause { HasCause (W.disk_faults world.old) (W.disk_faults world.new) result }
+    ensures reads { OnlyReads W.World world.old world.new result }
 {
     if at == end {
         return Ok(None);
@@ -108,10 +109,10 @@ fn batch_at<W: World>(world: &mut W, at: u64, pages: u32) -> Result<Step, Failed
     requires quiet { Quiet (W.pending world.old) }
     requires few { pages ≤ 65536 }
     requires place { at < log_bytes }
-    ensures found { IsSome (W.printed world.old) → IfOk result (λ step. FindsBatch pages (log_of (W.image world.old)) at step) }
+    ensures found { W.tells
+        → IfOk result (λ step. FindsBatch pages (log_of (W.image world.old)) at step) }
     ensures onward { IfOk result (λ step. StepsOn at step) }
-    ensures reads { OnlyReads W.clock W.left_since W.image W.pending W.printed W.print_faults world.old world.new }
-    ensures cause { HasCause (W.disk_faults world.old) (W.disk_faults world.new) result }
+    ensures reads { OnlyReads W.World world.old world.new result }
 {
     if read_gate(world, at)? != 1 {
         return Ok(Step::End);
@@ -134,10 +135,9 @@ fn batch_at<W: World>(world: &mut W, at: u64, pages: u32) -> Result<Step, Failed
 pub fn scan_end<W: World>(world: &mut W, pages: u32) -> Result<Option<u64>, Failed>
     requires quiet { Quiet (W.pending world.old) }
     requires few { pages ≤ 65536 }
-    ensures found { IsSome (W.printed world.old) → IfOk result (λ end. FindsEnd pages (log_of (W.image world.old)) end) }
+    ensures found { W.tells → IfOk result (λ end. FindsEnd pages (log_of (W.image world.old)) end) }
     ensures inside { IfOk result (λ end. IfSome end (λ end. end < log_bytes)) }
-    ensures reads { OnlyReads W.clock W.left_since W.image W.pending W.printed W.print_faults world.old world.new }
-    ensures cause { HasCause (W.disk_faults world.old) (W.disk_faults world.new) result }
+    ensures reads { OnlyReads W.World world.old world.new result }
 {
     let mut end = 0u64;
     'batches: while end < LOG_BYTES {

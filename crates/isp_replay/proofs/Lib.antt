@@ -1,3 +1,4 @@
 pub mod LogBytes
 pub mod PoolAfter
 pub mod PutLaws
+pub mod Replayed

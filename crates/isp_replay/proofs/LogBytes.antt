@@ -2,8 +2,7 @@
 use Rattle.std.proofs.Common.{◌≡◌, ℕ, ◌+◌, ◌<◌, ◌≤◌, List, [], ◌∷◌, length, sym, ◌∙◌, arith}
 use Rattle.isp_disk.specs.Moments.{Image}
 use Rattle.isp_format.specs.Log.{IsLog, Transaction, log_bytes, log_of, log_place}
-use Rattle.isp_format.specs.Ranges.{Range}
-use Rattle.isp_format.proofs.Local.{SameIn}
+use Rattle.isp_format.specs.Ranges.{Range, SameIn}
 use Rattle.isp_format.proofs.LogWalks.{log_inside, log_same}
 use Rattle.isp_format.proofs.Slices.{slice_agree}
 use Rattle.isp_redo.specs.Places.{IsAt, place_of}

@@ -8,7 +8,5 @@
 mod putting;
 mod refusal;
 mod replaying;
-#[cfg(test)]
-mod tests;
 
 pub use replaying::replay;

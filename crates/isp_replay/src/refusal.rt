@@ -7,7 +7,7 @@ use isp_disk::Failed;
 use isp_page::StoreFault;
 
 /// Why the log isn't put into the pages.
-#[derive(Clone, Copy, Debug, PartialEq, Eq)]
+#[derive(Clone, Copy)]
 pub enum Refusal {
     /// A call of the disk failed.
     DiskFailed,

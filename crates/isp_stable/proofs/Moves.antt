@@ -10,8 +10,8 @@ use Rattle.isp_format.specs.Contents.{StandsFor, ranges_of}
 use Rattle.isp_format.specs.Control.{IsControl, fanout_in, pages_in}
 use Rattle.isp_format.specs.Doublewrite.{HasCopies, area, area_place, copies, doublewrite_gate, laid}
 use Rattle.isp_format.specs.Log.{IsLog, Transaction, log_bytes, log_of, log_place}
-use Rattle.isp_format.specs.Ranges.{Contents, Range, cover, page_bytes, page_of, puts}
-use Rattle.isp_format.proofs.Local.{SameIn, control_same, copies_closed, fanout_same, log_kept, pages_same, stands_moved}
+use Rattle.isp_format.specs.Ranges.{Contents, Range, SameIn, cover, page_bytes, page_of, puts}
+use Rattle.isp_format.proofs.Local.{control_same, copies_closed, fanout_same, log_kept, pages_same, stands_moved}
 use Rattle.isp_format.proofs.Places.{above, below, neither}
 use Rattle.isp_format.proofs.Puts.{mixes, puts_append}
 use Rattle.isp_format.proofs.Slices.{slice_moved}
@@ -19,6 +19,7 @@ use Rattle.isp_redo.specs.Changes.{HasLogOf, in_log}
 
 -- a page as it stands in its place
 pub page_placed : (image : Image) (page at : ℕ) → at ≡ page * page_bytes + area_place → slice image at page_bytes ≡ page_of (area image) page
+unfolding page_of
 page_placed image page at is = slice_moved image (area image) at (page * page_bytes) page_bytes
     (λ k small. let place : at + k ≡ area_place + (page * page_bytes + k) = omega (arith, is) in ap image place)
 
@@ -60,8 +61,22 @@ area_by_log one other agree = λ i place. sym (agree (area_place + place) (above
 pub laid_by_log : (old left : Image) → old doublewrite_gate ≢ 1 → Agree in_log old left → laid left ≡ area old
 laid_by_log old left isnt agree = laid_closed left (gate_by_log old left agree isnt) ∙ area_by_log old left agree
 
+-- a file's shape, read from an image with the same control block
+pub record HasShape (pages fanout : ℕ) (image : Image) : Type 0 where
+  pub pages_are : pages_in image ≡ pages
+  pub fanout_are : fanout_in image ≡ fanout
+
+shape_same : (pages fanout : ℕ) (one other : Image) → SameIn 0 64 one other → HasShape pages fanout one → HasShape pages fanout other
+shape_same pages fanout one other same shape = record {
+  pages_are = sym (pages_same one other same) ∙ shape.pages_are;
+  fanout_are = sym (fanout_same one other same) ∙ shape.fanout_are;
+}
+
+pub shape_by_log : (pages fanout : ℕ) (one other : Image) → Agree in_log one other → HasShape pages fanout one → HasShape pages fanout other
+shape_by_log pages fanout one other agree = shape_same pages fanout one other (control_by_log one other agree)
+
 -- with one of two logs it stands for the contents of that log
-pub left_by_log : (pages : ℕ) (old : Image) (batches batches_now : List (List Transaction)) (end end_now : ℕ) (left : Image) → IsControl old → pages_in old ≡ pages → old doublewrite_gate ≢ 1 → HasLogOf pages old batches end batches_now end_now left
+pub left_by_log : (pages : ℕ) (old : Image) (batches batches_now : List (List Transaction)) (end end_now : ℕ) (left : Image) → IsControl old → pages_in old ≡ pages → old doublewrite_gate ≢ 1 → HasLogOf pages old (record { batches = batches; end = end }) (record { batches = batches_now; end = end_now }) left
     → (contents : Contents) × StandsFor left contents × ((contents ≡ puts (ranges_of batches) (area old)) ⊎ (contents ≡ puts (ranges_of batches_now) (area old)))
 left_by_log pages old batches batches_now end end_now left control are isnt has =
     let same = control_by_log old left has.others in
@@ -109,6 +124,9 @@ log_by_batch numbers one other agree place low high =
     (neither (in_range 1024 260 place) (in_range 4096 262144 place) (above 1024 260 place (omega (arith, low))) (above 4096 262144 place (omega (arith, low))))
     (above 512 1 place (omega (arith, low))) (omega (arith, high)))
 
+pub shape_by_batch : (numbers : List ℕ) (pages fanout : ℕ) (one other : Image) → Agree (batch_places numbers) one other → HasShape pages fanout one → HasShape pages fanout other
+shape_by_batch numbers pages fanout one other agree = shape_same pages fanout one other (control_by_batch numbers one other agree)
+
 -- what a stop within a batch leaves stands for the same contents, where the log covers what the batch changes
 pub left_by_batch : (old : Image) (batches : List (List Transaction)) (end : ℕ) (ranges : List Range) (numbers : List ℕ) (left : Image) → IsControl old → old doublewrite_gate ≢ 1 → IsLog (pages_in old) (log_of old) 0 batches end
     → Agree (cover (ranges_of batches)) (area old) (puts ranges (area old)) → HasCopies (pages_in old) left → (laid left ≡ area old) ⊎ (laid left ≡ puts ranges (area old)) → Agree (batch_places numbers) old left
@@ -135,17 +153,6 @@ beside_batch pages fanout ranges numbers old new done is =
 pub log_beside_batch : (pages : ℕ) (ranges : List Range) (numbers : List ℕ) (old new : Image) (batches : List (List Transaction)) (end : ℕ) → IsBatchDone ranges numbers old new → IsLog pages (log_of old) 0 batches end → IsLog pages (log_of new) 0 batches end
 log_beside_batch pages ranges numbers old new batches end done log = log_kept pages old new batches end (log_by_batch numbers old new done.others) log
 
--- an image that stands for the contents of one of two logs: without one mini-transaction more, or with it
-pub put_more : (old : Image) (batches : List (List Transaction)) (ranges : Transaction) (left : Image)
-    → (contents : Contents) × StandsFor left contents × ((contents ≡ puts (ranges_of batches) (area old)) ⊎ (contents ≡ puts (ranges_of (batches ++ (ranges ∷ []) ∷ [])) (area old)))
-    → (contents : Contents) × StandsFor left contents × ((contents ≡ puts (ranges_of batches) (area old)) ⊎ (contents ≡ puts ranges (puts (ranges_of batches) (area old))))
-put_more old batches ranges left (contents, stands, which) =
-    let more : puts (ranges_of (batches ++ (ranges ∷ []) ∷ [])) (area old) ≡ puts ranges (puts (ranges_of batches) (area old)) =
-    ap (λ (all : List Range). puts all (area old)) (ranges_more batches ranges) ∙ puts_append (ranges_of batches) ranges (area old) in
-    (contents, stands, ⊎_elim (λ e. inl e) (λ e. inr (e ∙ more)) which)
-
--- the same where the other log is empty and the pages stand in their places
-pub put_none : (old : Image) (batches : List (List Transaction)) (left : Image) → puts (ranges_of batches) (area old) ≡ area old
-    → (contents : Contents) × StandsFor left contents × ((contents ≡ puts (ranges_of batches) (area old)) ⊎ (contents ≡ area old))
-    → (contents : Contents) × StandsFor left contents × (contents ≡ puts (ranges_of batches) (area old))
-put_none old batches left placed (contents, stands, which) = (contents, stands, ⊎_elim (λ e. e) (λ e. e ∙ sym placed) which)
+-- a log with one mini-transaction more puts its ranges into what the log before puts
+pub puts_more : (batches : List (List Transaction)) (ranges : Transaction) (contents : Contents) → puts (ranges_of (batches ++ (ranges ∷ []) ∷ [])) contents ≡ puts ranges (puts (ranges_of batches) contents)
+puts_more batches ranges contents = ap (λ (all : List Range). puts all contents) (ranges_more batches ranges) ∙ puts_append (ranges_of batches) ranges contents

@@ -1,12 +1,14 @@
--- A file between two calls: pages in their places, and batches in its log; and what a stop within a call leaves of it.
-use Rattle.std.specs.Prelude.{◌≡◌, ◌≢◌, ◌⊎◌, ℕ, List}
-use Rattle.isp_disk.specs.Moments.{LeavesOnly}
+-- A file between two calls: pages in their places, and batches in its log; and what a call on it leaves.
+use Rattle.std.specs.Prelude.{◌≡◌, ◌≢◌, ◌⊎◌, ℕ, List, Result, OnOk}
+use Rattle.isp_disk.specs.Calls.{DiskCall}
+use Rattle.isp_disk.specs.Moments.{Image, LeavesOnly, Quiet}
+use Rattle.isp_disk.specs.Phases.{OnlyReads}
 use Rattle.isp_disk.specs.declared.world.World.{Ghosts}
 use Rattle.isp_format.specs.Contents.{StandsFor, ranges_of}
 use Rattle.isp_format.specs.Control.{IsControl, fanout_in, pages_in}
 use Rattle.isp_format.specs.Doublewrite.{area, doublewrite_gate, laid}
-use Rattle.isp_format.specs.Log.{IsLog, Transaction, log_of}
-use Rattle.isp_format.specs.Ranges.{Contents, page_of, puts}
+use Rattle.isp_format.specs.Log.{IsLog, Transaction, log_bytes, log_of, log_place}
+use Rattle.isp_format.specs.Ranges.{Contents, Range, SameIn, page_of, puts}
 use Rattle.isp_stable.specs.declared.stable.Stable.{Stable}
 
 -- each page of these contents is the page of one of two others
@@ -35,17 +37,50 @@ module _ {W : Type 0} (g : Ghosts W) where
   abbrev pub HasBatches : Stable W → List (List Transaction) → Type 0
   HasBatches s batches = (file : IsFile s) × (file.batches ≡ batches)
 
-  -- each stop since old leaves an image that stands for contents with P, and what was printed
-  abbrev pub StandsOnly : W → W → (Contents → Type 0) → Type 0
-  StandsOnly old new P = LeavesOnly g.clock g.left_since old new (λ left told. ((contents : Contents) × StandsFor left contents × P contents) × (told ≡ g.printed old))
+  -- an image that stands for contents with P, and has the shape of the file
+  pub record StandsAs (s : Stable W) (P : Contents → Type 0) (left : Image) : Type 0 where
+    pub contents : Contents
+    pub stands : StandsFor left contents
+    pub has : P contents
+    pub pages : pages_in left ≡ s.pages
+    pub fanout : fanout_in left ≡ s.fanout
+
+  -- each stop since old leaves such an image, and what was printed
+  abbrev pub StandsOnly : Stable W → W → (Contents → Type 0) → Type 0
+  StandsOnly old new P = LeavesOnly g.clock g.left_since old.world new (λ left told. StandsAs old P left × (told ≡ g.printed old.world))
 
   -- each stop since old leaves pages that have P, with the copies that count laid over them
   abbrev pub LaysOnly : W → W → (Contents → Type 0) → Type 0
   LaysOnly old new P = LeavesOnly g.clock g.left_since old new (λ left told. P (laid left))
 
-  -- what no call changes
-  pub record KeepsShape (old new : Stable W) : Type 0 where
-    pub pages : new.pages ≡ old.pages
-    pub fanout : new.fanout ≡ old.fanout
-    pub told : g.printed new.world ≡ g.printed old.world
-    pub printer : g.print_faults new.world ≡ g.print_faults old.world
+  -- the pages stand as they did before but for these ranges, and no byte of the log was changed
+  pub record HasWritten (ranges : List Range) (batches : List (List Transaction)) (old new : Stable W) : Type 0 where
+    pub placed_are : placed new ≡ puts ranges (placed old)
+    pub batches_are : HasBatches new batches
+    pub log_bytes_are : SameIn log_place log_bytes (g.image old.world) (g.image new.world)
+
+-- what no call changes
+pub record KeepsShape {W : Type 0} (old new : Stable W) : Type 0 where
+  pub pages : new.pages ≡ old.pages
+  pub fanout : new.fanout ≡ old.fanout
+
+-- What every call keeps: it works on the disk alone, and an Ok leaves nothing pending.
+pub record KeepsStable {W T E : Type 0} (g : Ghosts W) (old new : Stable W) (result : Result T E) : Type 0 where
+  pub shape : KeepsShape old new
+  pub quiet : OnOk result (Quiet (g.pending new.world))
+  pub calls : DiskCall g old.world new.world result
+
+-- What a call keeps that only reads. A stop within it leaves what the file stood for before, and the pages as they stood.
+pub record ReadsStable {W T E : Type 0} (g : Ghosts W) (old new : Stable W) (result : Result T E) : Type 0 where
+  pub shape : KeepsShape old new
+  pub log : new.log ≡ old.log
+  pub reads : OnlyReads g old.world new.world result
+  pub stops : g.tells → (file : IsFile g old) → StandsOnly g old new.world (λ contents. contents ≡ flushed g old file.batches)
+  pub pages : g.tells → IsFile g old → LaysOnly g old.world new.world (λ contents. contents ≡ placed g old)
+
+-- What a call makes of the log: an Ok leaves these batches. A stop within it leaves contents that have P, and the pages as
+-- they stood.
+pub record MakesLog {W T E : Type 0} (g : Ghosts W) (batches : List (List Transaction)) (P : Contents → Type 0) (old new : Stable W) (result : Result T E) : Type 0 where
+  pub batches_are : OnOk result (HasBatches g new batches)
+  pub stops : StandsOnly g old new.world P
+  pub pages : LaysOnly g old.world new.world (λ contents. contents ≡ placed g old)

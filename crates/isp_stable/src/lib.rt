@@ -4,7 +4,5 @@
 #![tactic(auto)]
 
 mod stable;
-#[cfg(test)]
-mod tests;
 
 pub use stable::Stable;

@@ -1,16 +1,13 @@
 //! A file of pages and its log, between two calls.
-ghost use Rattle.std.specs.Prelude.{◌≡◌, ◌⊎◌, ◌+◌, ◌<◌, ◌≤◌, ◌++◌, [], ◌∷◌, All, List, IsSome, IfOk, OnOk, length, map};
+ghost use Rattle.std.specs.Prelude.{◌≡◌, ◌⊎◌, ◌+◌, ◌<◌, ◌++◌, [], ◌∷◌, All, List, IfOk, OnOk, length, map};
 ghost use Rattle.isp_disk.specs.Moments.{Agree, Quiet, slice};
-ghost use Rattle.isp_disk.specs.Outside.{HasCause, Prints};
-ghost use Rattle.isp_doublewrite.specs.Batches.{number_of, whole_page};
+ghost use Rattle.isp_disk.specs.Phases.{OnlyReads};
+ghost use Rattle.isp_doublewrite.specs.Batches.{FitsBatch, number_of, whole_page};
 ghost use Rattle.isp_format.specs.Contents.{ranges_of};
-ghost use Rattle.isp_format.specs.Doublewrite.{AreDistinct, most_copies};
-ghost use Rattle.isp_format.proofs.Local.{SameIn};
-ghost use Rattle.isp_format.specs.Log.{IsBody, Transaction, log_bytes, log_of, log_place};
+ghost use Rattle.isp_format.specs.Log.{IsBody, Transaction, log_bytes, log_of};
 ghost use Rattle.isp_format.specs.Ranges.{Range, cover, page_bytes, page_of, puts};
 ghost use Rattle.isp_redo.specs.Places.{IsAt, IsFurther, LiesInPage, TakesRange, place_of};
-ghost use Rattle.isp_redo.specs.Reading.{OnlyReads};
-ghost use Rattle.isp_stable.specs.File.{HasBatches, IsFile, KeepsShape, LaysOnly, StandsOnly, flushed, placed};
+ghost use Rattle.isp_stable.specs.File.{HasWritten, IsFile, KeepsStable, LaysOnly, MakesLog, ReadsStable, StandsOnly, flushed, placed};
 
 use isp_disk::{Failed, World};
 use isp_doublewrite::write_batch;
@@ -36,16 +33,9 @@ impl<W: World> Stable<W> {
     /// Fills `into` with the page as it stands in its place.
     pub fn read_page(&mut self, p: PageNo, into: &mut Page) -> Result<(), Failed>
         requires quiet { Quiet (W.pending self.old.world) }
-        ensures page { IsSome (W.printed self.old.world) → OnOk result (into.new.bytes ≡ page_of (placed W.World self.old) p.0) }
-        ensures stops { IsSome (W.printed self.old.world) → (file : IsFile W.World self.old)
-            → StandsOnly W.World self.old.world self.new.world (λ contents. contents ≡ flushed W.World self.old file.batches) }
-        ensures pages { IsSome (W.printed self.old.world) → IsFile W.World self.old
-            → LaysOnly W.World self.old.world self.new.world (λ contents. contents ≡ placed W.World self.old) }
-        ensures same { W.image self.new.world ≡ W.image self.old.world }
-        ensures log { self.new.log ≡ self.old.log }
-        ensures quiet { Quiet (W.pending self.new.world) }
-        ensures shape { KeepsShape W.World self.old self.new }
-        ensures cause { HasCause (W.disk_faults self.old.world) (W.disk_faults self.new.world) result }
+        ensures page { W.tells
+            → OnOk result (into.new.bytes ≡ page_of (placed W.World self.old) p.0) }
+        ensures reads { ReadsStable W.World self.old self.new result }
     {
         let at = AREA + u64::from(p.0) * PAGE_BYTES as u64;
         fill(&mut self.world, at, &mut into.bytes)?;
@@ -60,20 +50,13 @@ impl<W: World> Stable<W> {
         into: &mut [u8; PAGE_BYTES],
     ) -> Result<Option<LogRange>, Failed>
         requires quiet { Quiet (W.pending self.old.world) }
-        ensures found { IsSome (W.printed self.old.world) → IsFile W.World self.old → (ranges : List Range)
+        ensures found { W.tells → IsFile W.World self.old → (ranges : List Range)
             → IsAt self.old.pages (log_of (W.image self.old.world)) (place_of from) ranges
-            → IfOk result (λ found. TakesRange self.old.pages (log_of (W.image self.old.world)) ranges into.new found) }
+            → IfOk result (λ found.
+            TakesRange self.old.pages (log_of (W.image self.old.world)) ranges into.new found) }
         ensures in_page { IfOk result (λ found. LiesInPage found) }
         ensures onward { IfOk result (λ found. IsFurther from found) }
-        ensures stops { IsSome (W.printed self.old.world) → (file : IsFile W.World self.old)
-            → StandsOnly W.World self.old.world self.new.world (λ contents. contents ≡ flushed W.World self.old file.batches) }
-        ensures pages { IsSome (W.printed self.old.world) → IsFile W.World self.old
-            → LaysOnly W.World self.old.world self.new.world (λ contents. contents ≡ placed W.World self.old) }
-        ensures same { W.image self.new.world ≡ W.image self.old.world }
-        ensures log { self.new.log ≡ self.old.log }
-        ensures quiet { Quiet (W.pending self.new.world) }
-        ensures shape { KeepsShape W.World self.old self.new }
-        ensures cause { HasCause (W.disk_faults self.old.world) (W.disk_faults self.new.world) result }
+        ensures reads { ReadsStable W.World self.old self.new result }
     {
         read_range(&mut self.world, from, into)
     }
@@ -81,27 +64,23 @@ impl<W: World> Stable<W> {
     /// Writes 1 to 64 pages in place. Where the log covers what they change, a stop at any moment leaves the same contents.
     pub fn write_pages(&mut self, batch: &[(PageNo, Page)]) -> Result<(), Failed>
         requires quiet { Quiet (W.pending self.old.world) }
-        requires some { 1 ≤ length batch.now }
-        requires most { length batch.now ≤ most_copies }
-        requires distinct { AreDistinct (map number_of batch.now) }
+        requires fits { FitsBatch (map number_of batch.now) }
         requires below { All (λ page. page < self.old.pages) (map number_of batch.now) }
-        requires file { IsSome (W.printed self.old.world) → IsFile W.World self.old }
-        ensures placed { IsSome (W.printed self.old.world)
-            → OnOk result (placed W.World self.new ≡ puts (map whole_page batch.now) (placed W.World self.old)) }
-        ensures batches { IsSome (W.printed self.old.world) → (file : IsFile W.World self.old)
-            → OnOk result (HasBatches W.World self.new file.batches) }
-        ensures stops { IsSome (W.printed self.old.world) → (file : IsFile W.World self.old)
-            → Agree (cover (ranges_of file.batches)) (placed W.World self.old) (puts (map whole_page batch.now) (placed W.World self.old))
-            → StandsOnly W.World self.old.world self.new.world (λ contents. contents ≡ flushed W.World self.old file.batches) }
-        ensures pages { IsSome (W.printed self.old.world) → IsFile W.World self.old
+        requires file { W.tells → IsFile W.World self.old }
+        ensures written { W.tells → (file : IsFile W.World self.old)
+            → OnOk result (HasWritten W.World (map whole_page batch.now) file.batches
+            self.old self.new) }
+        ensures stops { W.tells → (file : IsFile W.World self.old)
+            → Agree (cover (ranges_of file.batches)) (placed W.World self.old)
+            (puts (map whole_page batch.now) (placed W.World self.old))
+            → StandsOnly W.World self.old self.new.world (λ contents.
+            contents ≡ flushed W.World self.old file.batches) }
+        ensures pages { W.tells → IsFile W.World self.old
             → LaysOnly W.World self.old.world self.new.world (λ contents.
-            (contents ≡ placed W.World self.old) ⊎ (contents ≡ puts (map whole_page batch.now) (placed W.World self.old))) }
+            (contents ≡ placed W.World self.old)
+            ⊎ (contents ≡ puts (map whole_page batch.now) (placed W.World self.old))) }
         ensures log { self.new.log ≡ self.old.log }
-        ensures log_bytes { IsSome (W.printed self.old.world)
-            → OnOk result (SameIn log_place log_bytes (W.image self.old.world) (W.image self.new.world)) }
-        ensures quiet { OnOk result (Quiet (W.pending self.new.world)) }
-        ensures shape { KeepsShape W.World self.old self.new }
-        ensures cause { HasCause (W.disk_faults self.old.world) (W.disk_faults self.new.world) result }
+        ensures kept { KeepsStable W.World self.old self.new result }
     {
         write_batch(&mut self.world, batch)?;
         Ok(())
@@ -112,43 +91,31 @@ impl<W: World> Stable<W> {
     pub fn append(&mut self, body: &[u8]) -> Result<(), Failed>
         requires quiet { Quiet (W.pending self.old.world) }
         requires fits { self.old.log.end + 5 + length body.now < log_bytes }
-        ensures batches { IsSome (W.printed self.old.world) → (file : IsFile W.World self.old) (ranges : Transaction)
+        ensures appended { W.tells → (file : IsFile W.World self.old) (ranges : Transaction)
             → IsBody self.old.pages (ranges ∷ []) body.now
-            → OnOk result (HasBatches W.World self.new (file.batches ++ (ranges ∷ []) ∷ [])) }
-        ensures placed { IsSome (W.printed self.old.world) → placed W.World self.new ≡ placed W.World self.old }
-        ensures stops { IsSome (W.printed self.old.world) → (file : IsFile W.World self.old) (ranges : Transaction)
-            → IsBody self.old.pages (ranges ∷ []) body.now
-            → StandsOnly W.World self.old.world self.new.world (λ contents.
-            (contents ≡ flushed W.World self.old file.batches) ⊎ (contents ≡ puts ranges (flushed W.World self.old file.batches))) }
-        ensures pages { IsSome (W.printed self.old.world) → IsFile W.World self.old → (ranges : Transaction)
-            → IsBody self.old.pages (ranges ∷ []) body.now
-            → LaysOnly W.World self.old.world self.new.world (λ contents. contents ≡ placed W.World self.old) }
+            → MakesLog W.World (file.batches ++ (ranges ∷ []) ∷ []) (λ contents.
+            (contents ≡ flushed W.World self.old file.batches)
+            ⊎ (contents ≡ puts ranges (flushed W.World self.old file.batches)))
+            self.old self.new result }
+        ensures placed { W.tells → placed W.World self.new ≡ placed W.World self.old }
         ensures end { OnOk result (self.new.log.end ≡ self.old.log.end + 5 + length body.now) }
-        ensures quiet { OnOk result (Quiet (W.pending self.new.world)) }
-        ensures shape { KeepsShape W.World self.old self.new }
-        ensures cause { HasCause (W.disk_faults self.old.world) (W.disk_faults self.new.world) result }
+        ensures kept { KeepsStable W.World self.old self.new result }
     {
         self.log.append(&mut self.world, body)?;
         Ok(())
     }
 
-    /// Empties the log; an empty one is left alone, with no call of the disk. Where all that the log has stands in its
-    /// pages' places, a stop at any moment leaves the same contents.
+    /// Empties the log; an empty one is left alone, with no call of the disk. A stop within it leaves the contents with the
+    /// log or those without it: the same where all that the log has stands in its pages' places.
     pub fn empty_log(&mut self) -> Result<(), Failed>
         requires quiet { Quiet (W.pending self.old.world) }
         ensures untouched { self.old.log.end ≡ 0 → self.new ≡ self.old }
-        ensures batches { IsSome (W.printed self.old.world) → IsFile W.World self.old
-            → OnOk result (HasBatches W.World self.new []) }
-        ensures placed { IsSome (W.printed self.old.world) → placed W.World self.new ≡ placed W.World self.old }
-        ensures stops { IsSome (W.printed self.old.world) → (file : IsFile W.World self.old)
-            → flushed W.World self.old file.batches ≡ placed W.World self.old
-            → StandsOnly W.World self.old.world self.new.world (λ contents. contents ≡ flushed W.World self.old file.batches) }
-        ensures pages { IsSome (W.printed self.old.world) → IsFile W.World self.old
-            → LaysOnly W.World self.old.world self.new.world (λ contents. contents ≡ placed W.World self.old) }
+        ensures emptied { W.tells → (file : IsFile W.World self.old)
+            → MakesLog W.World [] (λ contents. (contents ≡ flushed W.World self.old file.batches)
+            ⊎ (contents ≡ placed W.World self.old)) self.old self.new result }
+        ensures placed { W.tells → placed W.World self.new ≡ placed W.World self.old }
         ensures end { OnOk result (self.new.log.end ≡ 0) }
-        ensures quiet { OnOk result (Quiet (W.pending self.new.world)) }
-        ensures shape { KeepsShape W.World self.old self.new }
-        ensures cause { HasCause (W.disk_faults self.old.world) (W.disk_faults self.new.world) result }
+        ensures kept { KeepsStable W.World self.old self.new result }
     {
         self.log.reset(&mut self.world)?;
         Ok(())
@@ -158,9 +125,8 @@ impl<W: World> Stable<W> {
 // Fills a page's bytes with those from `at` on.
 fn fill<W: World>(world: &mut W, at: u64, into: &mut [u8; PAGE_BYTES]) -> Result<(), Failed>
     requires { Quiet (W.pending world.old) }
-    ensures bytes { IsSome (W.printed world.old) → OnOk result (into.new ≡ slice (W.image world.old) at page_bytes) }
-    ensures reads { OnlyReads W.clock W.left_since W.image W.pending W.printed W.print_faults world.old world.new }
-    ensures cause { HasCause (W.disk_faults world.old) (W.disk_faults world.new) result }
+    ensures bytes { W.tells → OnOk result (into.new ≡ slice (W.image world.old) at page_bytes) }
+    ensures reads { OnlyReads W.World world.old world.new result }
 {
     world.read(at, into)?;
     Ok(())

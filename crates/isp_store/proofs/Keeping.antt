@@ -1,33 +1,35 @@
 -- What holds of a running store goes on over what a call does to its frames.
 use Rattle.std.proofs.Common.{◌≡◌, ⊎_elim, ℕ, ◌+◌, ◌*◌, ◌-◌, ◌<◌, ◌≤◌, ◌==◌, ◌||◌, Bool, true, false, List, [], ◌∷◌, All, Option, Some, None, get_or, length, length-set, map, set, refl, sym, ◌∙◌, ap, subst, arith}
-use Rattle.std.specs.Prelude.{IsSome, count_by}
+use Rattle.std.specs.Prelude.{Err, Ok, Result, IsErr, OnOk, count_by}
 use Rattle.std.specs.List.{list_any}
 use Rattle.std.proofs.lemmas.Bool.{cases_eq, false≢true}
 use Rattle.std.proofs.lemmas.List.{get_or-map, length-map}
 use Rattle.std.proofs.lemmas.List.Elements.{All-head, All-tail}
 use Rattle.std.proofs.lemmas.Bool.Decides.{nat_tests}
-use Rattle.isp_disk.specs.Moments.{Quiet, in_range}
+use Rattle.isp_disk.specs.Moments.{in_range}
 use Rattle.isp_disk.specs.declared.world.World.{Ghosts}
-use Rattle.isp_format.specs.Contents.{ranges_of}
+use Rattle.isp_format.specs.Contents.{StandsFor, ranges_of}
 use Rattle.isp_format.specs.Log.{log_bytes}
 use Rattle.isp_format.specs.Ranges.{cover, page_bytes}
 use Rattle.isp_format.proofs.Places.{before_end, from_start, inside, neither, not_first, not_second}
 use Rattle.isp_format.proofs.Puts.{puts_outside}
-use Rattle.isp_frames.specs.Cached.{IsCached, KeepsCached}
-use Rattle.isp_frames.specs.Held.{AreBelow, IsHeldAt, now_over, page_places, pinned_places}
+use Rattle.isp_frames.specs.Cached.{IsCached, IsSteady, KeepsCache, StaysCached}
+use Rattle.isp_frames.specs.Held.{AreApart, AreBelow, IsHeldAt, page_places, pinned_places}
 use Rattle.isp_frames.specs.declared.cache.Cache.{Cache}
-use Rattle.isp_frames.proofs.NowLaws.{AreApart, edited_is, flagged_now, frame_below, pinned_clean, one_frame, pool_apart, set_apart, set_away, set_cases, set_here, some_is}
+use Rattle.isp_frames.proofs.NowLaws.{edited_is, flagged_now, frame_below, pinned_clean, one_frame, pool_apart, set_apart, set_away, set_cases, set_here, some_is}
 use Rattle.isp_frames.proofs.PinLaws.{pinned_after, pinned_there}
+use Rattle.isp_frames.proofs.Staying.{kept_failed}
 use Rattle.isp_mini.specs.Extents.{AreExtents, IsExtent, extent_cover, extent_place, largest_body, page_number, with_extent}
 use Rattle.isp_mini.specs.declared.changes.Extent.{Extent}
 use Rattle.isp_mini.proofs.ExtentLaws.{all_with, as_many_with, below_with, extents_with, one_longer_with}
-use Rattle.isp_page.specs.declared.page.PageNo.{PageNo}
+use Rattle.isp_base.specs.declared.page_no.PageNo.{PageNo}
 use Rattle.isp_pool.specs.Frames.{IsPool, PoolState, edited, frame_at, frame_in, fresh_frame, is_dirty, is_pinned, loaded, one_if, page_of as page_in, with_frame}
 use Rattle.isp_pool.specs.declared.frames.Frame.{Frame}
 use Rattle.isp_pool.proofs.StateLaws.{dirty_after, loaded_count}
 use Rattle.isp_redo.specs.declared.log.Log.{Log}
-use Rattle.isp_stable.specs.File.{KeepsShape, flushed, placed}
-use Rattle.isp_store.specs.Running.{AreFrames, IsAlong, IsPinnedIn, IsRunning, IsUnpinned}
+use Rattle.isp_stable.specs.File.{flushed, placed}
+use Rattle.isp_stable.proofs.Files.{stands, stands_weaker}
+use Rattle.isp_store.specs.Running.{AreFrames, IsAlong, IsPinnedIn, IsRunning, IsUnpinned, StaysRunning}
 
 -- The bytes of an extent lie in its page, which is pinned.
 
@@ -56,9 +58,13 @@ covered_pinned pool (extent ∷ extents) place each pinned out =
     beside true has = hit has
     beside false has = refl
 
+-- the cache with other frames
+abbrev pub with_pool : {W : Type 0} → Cache W → PoolState → Cache W
+with_pool s pool = record s { pool = pool }
+
 module _ {W : Type 0} (g : Ghosts W) where
   -- a running store is a file whose pages are cached
-  abbrev pub cached_of : (s : Cache W) (extents : List Extent) → AreFrames s.stable.pages s.pool extents → IsAlong g s.stable s.pool extents → IsCached g s
+  abbrev pub cached_of : (s : Cache W) (extents : List Extent) → AreFrames s.stable.pages s.pool extents → IsAlong g s extents → IsCached g s
   cached_of s extents frames along = record {
     file = along.file;
     clean = along.clean;
@@ -69,15 +75,49 @@ module _ {W : Type 0} (g : Ghosts W) where
         ∙ along.differs place (covered_pinned s.pool extents place frames.extents.each frames.pinned pinned);
   }
 
-  -- over a call that keeps what it stands for and the contents now
-  pub along_after : (old new : Cache W) (extents : List Extent) (along : IsAlong g old.stable old.pool extents) (cached : IsCached g new) → cached.file.batches ≡ along.file.batches → flushed g new.stable along.file.batches ≡ flushed g old.stable along.file.batches
-      → now_over new.pool.frames (placed g new.stable) ≡ now_over old.pool.frames (placed g old.stable) → IsAlong g new.stable new.pool extents
-  along_after old new extents along cached batches same now = record {
-    file = cached.file;
-    clean = cached.clean;
-    differs = λ place out.
-        (λ i. flushed g new.stable (batches i) place) ∙ (λ i. same i place) ∙ along.differs place out ∙ (λ i. sym now i place);
+  pub steady_of : (s : Cache W) (extents : List Extent) → IsRunning g s extents → IsSteady g s
+  steady_of s extents running = record {
+    quiet = running.quiet;
+    below = running.frames.below;
+    cached = λ tells. cached_of s extents running.frames (running.along tells);
   }
+
+  -- over a call that keeps what it stands for and the contents now
+  pub along_after : (old new : Cache W) (extents : List Extent) (along : IsAlong g old extents) → StaysCached g old new along.file.batches → IsAlong g new extents
+  along_after old new extents along stays = record {
+    file = stays.after.cached.file;
+    clean = stays.after.cached.clean;
+    differs = λ place out.
+        (λ i. flushed g new.stable (stays.after.same i) place) ∙ (λ i. stays.after.stands i place) ∙ along.differs place out ∙ (λ i. sym stays.after.contents_are i place);
+  }
+
+  -- a running store, over a call that moves pages between its frames and the file
+  pub running_kept : {A E : Type 0} (old new : Cache W) (a : A) (extents : List Extent) → IsRunning g old extents → AreFrames old.stable.pages new.pool extents → KeepsCache g {T = A} {E = E} old new (Ok a) → IsRunning g new extents
+  running_kept old new a extents running frames kept = record {
+    quiet = kept.file.steady.quiet;
+    frames = subst (λ (n : ℕ). AreFrames n new.pool extents) (sym kept.file.stable.shape.pages) frames;
+    room = λ some. subst (λ (l : Log). l.end + 5 + largest_body < log_bytes) (sym kept.log) (running.room some);
+    batch = subst (λ (n : ℕ). 64 ≤ n) (sym kept.file.room) running.batch;
+    along = λ tells.
+        let before = running.along tells in
+        along_after old new extents before (kept.stays tells (cached_of old extents running.frames before));
+  }
+
+  -- what a call on the frames leaves stays of the store, and other frames over it
+  pub stays_kept : {A E : Type 0} (old mid : Cache W) (pool : PoolState) (before extents : List Extent) (result : Result A E) → IsRunning g old before → KeepsCache g old mid result → OnOk result (IsRunning g (with_pool mid pool) extents)
+      → StaysRunning g old (with_pool mid pool) extents result
+  stays_kept old mid pool before extents result running kept after = record {
+    stable = kept.file.stable;
+    running = after;
+    pages = λ tells. kept.file.pages tells (cached_of old before running.frames (running.along tells));
+    stops = λ tells.
+        let cached = cached_of old before running.frames (running.along tells) in
+        stands_weaker g old.stable mid.stable.world _ _ (λ contents is. subst (StandsFor (g.image old.stable.world)) (sym is) (stands g old.stable cached.file)) (kept.stops tells cached);
+  }
+
+  pub stays_failed : {A B E : Type 0} (old new : Cache W) (before extents : List Extent) (e : E) (result : Result B E) → IsErr result → IsRunning g old before → KeepsCache g {T = A} {E = E} old new (Err e) → StaysRunning g old new extents result
+  stays_failed old new before extents e (Ok b) err running kept = absurd (cc)
+  stays_failed old new before extents e (Err other) err running kept = stays_kept old new new.pool before extents (Err other) running (kept_failed g old new e (Err other) refl kept) tt
 
 -- a frame that is pinned is none that isn't
 pub pinned_away : (pool : PoolState) (i j : ℕ) (f : Frame) → is_pinned (frame_at pool i) ≡ false → frame_at pool j ≡ Some f → f.pinned ≡ true → j ≡ i → ⊥
@@ -274,7 +314,7 @@ frames_unpinned pages s i f first extents are there page = record {
 
 -- it and no other is changed by that
 pub unpinned_begins : (pages : ℕ) (s : PoolState) (extents : List Extent) → AreFrames pages s extents → IsUnpinned pages s s extents
-unpinned_begins pages s extents are = record { frames = are; now = λ placed. refl; clean = λ placed clean. clean; dirty = refl; held = λ i. refl; count = refl }
+unpinned_begins pages s extents are = record { frames = are; now_is = λ placed. refl; clean = λ placed clean. clean; dirty = refl; held = λ i. refl; count = refl }
 
 same_dirty : (s : PoolState) (i : ℕ) (f : Frame) → frame_at s i ≡ Some f → count_by is_dirty (set s.frames i (Some (record f { pinned = false }))) ≡ count_by is_dirty s.frames
 same_dirty s i f there =
@@ -304,7 +344,7 @@ unpinned_more pages old s i first extents so_far is = some (frame_at s i) refl i
         let whole : with_set s i (unpin f) ≡ with_frame s i unpin = λ j. record { frames = sym set_is j; recent = s.recent } in
         record {
           frames = subst (λ (p : PoolState). AreFrames pages p extents) whole (frames_unpinned pages s i f first extents so_far.frames there (ap (λ (p : PageNo). p.0) (some_is f.page first.page number)));
-          now = λ placed. flagged_now s.frames placed i f unpin there refl ∙ so_far.now placed;
+          now_is = λ placed. flagged_now s.frames placed i f unpin there refl ∙ so_far.now_is placed;
           clean = λ placed clean. pinned_clean s.frames placed i f false there (so_far.clean placed clean);
           dirty = ap (count_by is_dirty) set_is ∙ same_dirty s i f there ∙ so_far.dirty;
           held = λ k. ap (λ (fs : List (Option Frame)). page_in (frame_in fs k)) set_is ∙ same_held s i f there k ∙ so_far.held k;
@@ -313,15 +353,7 @@ unpinned_more pages old s i first extents so_far is = some (frame_at s i) refl i
 
 module _ {W : Type 0} (g : Ghosts W) where
   -- a running store, once a page came to stand in a frame
-  pub running_held : (old new : Cache W) (extents : List Extent) (p : PageNo) (i : ℕ) → IsRunning g old.stable old.pool extents → IsHeldAt p i old.pool new.pool → IsPool new.pool → AreBelow old.stable.pages new.pool.frames → Quiet (g.pending new.stable.world) → new.stable.log ≡ old.stable.log → KeepsShape g old.stable new.stable
-      → (IsSome (g.printed old.stable.world) → (cached : IsCached g old) → KeepsCached g old new cached.file.batches) → IsRunning g new.stable new.pool extents
-  running_held old new extents p i running held pool below quiet log shape keeps = record {
-    quiet = quiet;
-    frames = subst (λ (n : ℕ). AreFrames n new.pool extents) (sym shape.pages) (frames_held old.stable.pages p i old.pool new.pool extents running.frames held pool below);
-    room = λ some. subst (λ (l : Log). l.end + 5 + largest_body < log_bytes) (sym log) (running.room some);
-    along = λ told.
-        let tells = subst IsSome shape.told told in
-        let before = running.along tells in
-        let kept = keeps tells (cached_of g old extents running.frames before) in
-        along_after g old new extents before kept.0 kept.1 kept.2 kept.3;
-  }
+  pub running_held : {E : Type 0} (old new : Cache W) (extents : List Extent) (p : PageNo) (i : ℕ) → IsRunning g old extents → IsHeldAt p i old.pool new.pool → IsPool new.pool → KeepsCache g {T = ℕ} {E = E} old new (Ok i) → IsRunning g new extents
+  running_held old new extents p i running held pool kept =
+      running_kept g old new i extents running
+      (frames_held old.stable.pages p i old.pool new.pool extents running.frames held pool (subst (λ (n : ℕ). AreBelow n new.pool.frames) kept.file.stable.shape.pages kept.file.steady.below)) kept

@@ -4,3 +4,5 @@ pub mod Spelling
 pub mod Putting
 pub mod Settled
 pub mod Logged
+pub mod Fields
+pub mod Opened

@@ -1,22 +1,27 @@
 -- A store whose open mini-transaction went to the log.
-use Rattle.std.proofs.Common.{◌≡◌, ◌⊎◌, inl, inr, ⊎_elim, ℕ, ◌+◌, ◌<◌, ◌≤◌, List, [], ◌∷◌, ◌++◌, length, sym, ◌∙◌, ap, subst, arith}
+use Rattle.std.proofs.Common.{◌≡◌, inl, inr, ⊎_elim, ℕ, ◌+◌, ◌<◌, ◌≤◌, List, [], ◌∷◌, ◌++◌, Err, Ok, Result, length, refl, sym, ◌∙◌, ap, subst, arith}
+use Rattle.std.specs.Prelude.{IsErr, OnOk}
 use Rattle.isp_disk.specs.declared.world.World.{Ghosts}
-use Rattle.isp_disk.proofs.Moments.{widens}
-use Rattle.isp_format.specs.Contents.{ranges_of}
+use Rattle.isp_format.specs.Contents.{StandsFor, ranges_of}
 use Rattle.isp_format.specs.Log.{IsBody, Transaction, log_bytes, transaction_bytes}
 use Rattle.isp_format.specs.Ranges.{Contents, Range, puts}
 use Rattle.isp_format.proofs.Puts.{puts_append}
+use Rattle.isp_format.proofs.Standing.{stands_once}
+use Rattle.isp_frames.specs.Cached.{now}
 use Rattle.isp_frames.specs.Held.{AreClean, now_over}
+use Rattle.isp_frames.specs.declared.cache.Cache.{Cache}
+use Rattle.isp_frames.proofs.PageLaws.{lays_read}
 use Rattle.isp_mini.specs.Extents.{AreExtents, largest_body, ranges_in}
 use Rattle.isp_mini.specs.declared.changes.Extent.{Extent}
 use Rattle.isp_mini.proofs.BodyLaws.{body_fits}
 use Rattle.isp_mini.proofs.RangeLaws.{body_is, logged}
+use Rattle.isp_page.specs.Steps.{Or}
 use Rattle.isp_pool.specs.Frames.{PoolState}
-use Rattle.isp_stable.specs.File.{HasBatches, IsFile, StandsOnly, flushed, placed}
+use Rattle.isp_stable.specs.File.{IsFile, KeepsStable, MakesLog, flushed, placed}
 use Rattle.isp_stable.specs.declared.stable.Stable.{Stable}
+use Rattle.isp_stable.proofs.Files.{stands, stands_weaker}
 use Rattle.isp_stable.proofs.Moves.{ranges_more}
-use Rattle.isp_store.specs.Running.{AreFrames, IsAlong, IsUnpinned}
-use Rattle.isp_store.proofs.Putting.{one_file}
+use Rattle.isp_store.specs.Running.{AreFrames, IsAlong, IsRunning, IsUnpinned, StaysLogging}
 
 -- the body of a mini-transaction fits where the largest does
 pub fits : (end : ℕ) (body : List ℕ) (contents : Contents) (extents : List Extent) → AreExtents extents → body ≡ transaction_bytes (ranges_in contents extents) → end + 5 + largest_body < log_bytes → end + 5 + length body < log_bytes
@@ -30,31 +35,76 @@ spelled pages body contents pool extents are is = subst (λ (bs : List ℕ). IsB
 
 module _ {W : Type 0} (g : Ghosts W) where
   -- over what the file stood for the ranges give the contents now
-  pub gives_now : (stable : Stable W) (pool : PoolState) (extents : List Extent) (along : IsAlong g stable pool extents) (file : IsFile g stable) → puts (ranges_in (now_over pool.frames (placed g stable)) extents) (flushed g stable file.batches) ≡ now_over pool.frames (placed g stable)
-  gives_now stable pool extents along file =
-      ap (λ (batches : List (List Transaction)). puts (ranges_in (now_over pool.frames (placed g stable)) extents) (flushed g stable batches)) (one_file g stable file along.file)
-      ∙ logged extents (flushed g stable along.file.batches) (now_over pool.frames (placed g stable)) along.differs
+  gives_now : (s : Cache W) (extents : List Extent) → IsAlong g s extents → (file : IsFile g s.stable) → puts (ranges_in (now g s) extents) (flushed g s.stable file.batches) ≡ now g s
+  gives_now s extents along file =
+      ap (puts (ranges_in (now g s) extents)) (stands_once (g.image s.stable.world) (flushed g s.stable file.batches) (flushed g s.stable along.file.batches) (stands g s.stable file) (stands g s.stable along.file))
+      ∙ logged extents (flushed g s.stable along.file.batches) (now g s) along.differs
+
+  -- the cache with another file and other frames
+  abbrev pub with_both : Cache W → Stable W → PoolState → Cache W
+  with_both s stable pool = record s { stable = stable; pool = pool }
+
+  -- what the append makes of the log
+  abbrev pub Appends : {T E : Type 0} → Cache W → List Extent → Stable W → Result T E → Type 0
+  Appends s extents new result = g.tells → (file : IsFile g s.stable)
+      → MakesLog g (file.batches ++ (ranges_in (now g s) extents ∷ []) ∷ []) (Or (λ contents. contents ≡ flushed g s.stable file.batches) (λ contents. contents ≡ puts (ranges_in (now g s) extents) (flushed g s.stable file.batches))) s.stable new result
 
   -- a stop within the append leaves what the file stood for, or the contents now
-  pub stops_logging : (stable : Stable W) (new : W) (pool : PoolState) (extents : List Extent) (along : IsAlong g stable pool extents) (file : IsFile g stable)
-      → StandsOnly g stable.world new (λ contents. (contents ≡ flushed g stable file.batches) ⊎ (contents ≡ puts (ranges_in (now_over pool.frames (placed g stable)) extents) (flushed g stable file.batches)))
-      → StandsOnly g stable.world new (λ contents. (contents ≡ flushed g stable file.batches) ⊎ (contents ≡ now_over pool.frames (placed g stable)))
-  stops_logging stable new pool extents along file stands = widens g.clock g.left_since stable.world new _ _ stands
-      (λ left told has. ((has.0.0, has.0.1, ⊎_elim (λ e. inl e) (λ e. inr (e ∙ gives_now stable pool extents along file)) has.0.2), has.1))
+  pub stays_logging : {T E : Type 0} (s : Cache W) (new : Stable W) (pool : PoolState) (before : List Extent) (result : Result T E) → IsRunning g s before → KeepsStable g s.stable new result → Appends s before new result
+      → OnOk result (IsRunning g (with_both s new pool) []) → StaysLogging g s (with_both s new pool) [] result
+  stays_logging s new pool before result running kept appends after = record {
+    stable = kept;
+    running = after;
+    pages = λ tells. lays_read g s.stable (now g s) new.world (appends tells (running.along tells).file).pages;
+    stops = λ tells.
+        let along = running.along tells in
+        stands_weaker g s.stable new.world _ _ (λ contents which. ⊎_elim
+        (λ is. inl (subst (StandsFor (g.image s.stable.world)) (sym is) (stands g s.stable along.file)))
+        (λ is. inr (is ∙ gives_now s before along along.file)) which)
+        (appends tells along.file).stops;
+  }
+
+  pub logging_failed : {A B E : Type 0} (s : Cache W) (new : Stable W) (pool : PoolState) (before : List Extent) (e : E) (result : Result B E) → IsErr result → IsRunning g s before → KeepsStable {T = A} {E = E} g s.stable new (Err e) → Appends {T = A} {E = E} s before new (Err e)
+      → StaysLogging g s (with_both s new pool) [] result
+  logging_failed s new pool before e (Ok b) err running kept appends = absurd (cc)
+  logging_failed s new pool before e (Err other) err running kept appends =
+      stays_logging s new pool before (Err other) running
+      (record {
+        shape = kept.shape;
+        quiet = tt;
+        calls = record {
+          printed = kept.calls.printed;
+          printer = kept.calls.printer;
+          cause = record { later = kept.calls.cause.later; steady = tt; failed = kept.calls.cause.failed };
+        };
+      })
+      (λ tells file. let makes = appends tells file in record { batches_are = tt; stops = makes.stops; pages = makes.pages })
+      tt
 
   -- the store behind it
-  pub along_logged : (old new : Stable W) (pool unpinned : PoolState) (extents : List Extent) (pages : ℕ) (along : IsAlong g old pool extents) → HasBatches g new (along.file.batches ++ (ranges_in (now_over pool.frames (placed g old)) extents ∷ []) ∷ []) → placed g new ≡ placed g old → IsUnpinned pages pool unpinned [] → IsAlong g new unpinned []
-  along_logged old new pool unpinned extents pages along has same un =
-      let ranges : Transaction = ranges_in (now_over pool.frames (placed g old)) extents in
-      let now_is : now_over unpinned.frames (placed g new) ≡ now_over pool.frames (placed g old) = un.now (placed g new) ∙ ap (now_over pool.frames) same in
-      let flushed_is : flushed g new has.0.batches ≡ now_over pool.frames (placed g old) =
-      ap (λ (batches : List (List Transaction)). flushed g new batches) has.1
-      ∙ ap (λ (all : List Range). puts all (placed g new)) (ranges_more along.file.batches ranges)
-      ∙ puts_append (ranges_of along.file.batches) ranges (placed g new)
-      ∙ ap (λ (contents : Contents). puts ranges (puts (ranges_of along.file.batches) contents)) same
-      ∙ gives_now old pool extents along along.file in
-      record {
-        file = has.0;
-        clean = un.clean (placed g new) (subst (λ (contents : Contents). AreClean pool.frames contents) (sym same) along.clean);
-        differs = λ place out. (λ i. flushed_is i place) ∙ (λ i. sym now_is i place);
-      }
+  pub running_logged : {T E : Type 0} (s : Cache W) (new : Stable W) (pool : PoolState) (before : List Extent) (t : T) → IsRunning g s before → KeepsStable {T = T} {E = E} g s.stable new (Ok t) → Appends {T = T} {E = E} s before new (Ok t)
+      → (g.tells → placed g new ≡ placed g s.stable) → IsUnpinned new.pages s.pool pool [] → IsRunning g (with_both s new pool) []
+  running_logged s new pool before t running kept appends same un = record {
+    quiet = kept.quiet;
+    frames = un.frames;
+    room = λ some. absurd (some refl);
+    batch = running.batch;
+    along = λ tells. along_logged tells (running.along tells);
+  }
+    where
+      along_logged : g.tells → IsAlong g s before → IsAlong g (with_both s new pool) []
+      along_logged tells along =
+          let ranges : Transaction = ranges_in (now g s) before in
+          let has = (appends tells along.file).batches_are in
+          let now_is : now_over pool.frames (placed g new) ≡ now g s = un.now_is (placed g new) ∙ ap (now_over s.pool.frames) (same tells) in
+          let flushed_is : flushed g new has.0.batches ≡ now g s =
+          ap (λ (batches : List (List Transaction)). flushed g new batches) has.1
+          ∙ ap (λ (all : List Range). puts all (placed g new)) (ranges_more along.file.batches ranges)
+          ∙ puts_append (ranges_of along.file.batches) ranges (placed g new)
+          ∙ ap (λ (contents : Contents). puts ranges (puts (ranges_of along.file.batches) contents)) (same tells)
+          ∙ gives_now s before along along.file in
+          record {
+            file = has.0;
+            clean = un.clean (placed g new) (subst (AreClean s.pool.frames) (sym (same tells)) along.clean);
+            differs = λ place out. (λ i. flushed_is i place) ∙ (λ i. sym now_is i place);
+          }

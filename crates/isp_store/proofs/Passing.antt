@@ -1,157 +1,141 @@
 -- What a stop leaves of a call of a store, out of what it leaves of the call's calls of the world.
-use Rattle.std.proofs.Common.{◌≡◌, ◌≢◌, ◌⊎◌, inl, inr, ⊎_elim, false, ℕ, ◌≤◌, List, [], Option, Some, None, Result, Ok, Err, take, refl, sym, ◌∙◌, ap, subst, arith}
-use Rattle.std.specs.Prelude.{IsSome}
+use Rattle.std.proofs.Common.{◌≡◌, ◌≢◌, inl, inr, ⊎_elim, true, false, ℕ, ◌≤◌, List, Result, Ok, Err, refl, sym, ◌∙◌, ap, subst}
 use Rattle.isp_disk.specs.Moments.{Image, Agree, During, Elapses, Keeps, Quiet, no_place}
-use Rattle.isp_disk.specs.Outside.{Prints, PrintsPart, told_behind}
+use Rattle.isp_disk.specs.Outside.{HasCause, Prints}
 use Rattle.isp_disk.specs.declared.world.World.{Ghosts}
-use Rattle.isp_disk.proofs.Calls.{told_nothing}
-use Rattle.isp_disk.proofs.Moments.{agree_self}
-use Rattle.isp_format.specs.Contents.{IsContentsOf, StandsFor, ranges_of}
+use Rattle.isp_disk.proofs.Moments.{agree_self, goes_on}
+use Rattle.isp_format.specs.Contents.{StandsFor, ranges_of}
 use Rattle.isp_format.specs.Control.{IsControl, fanout_in, pages_in}
 use Rattle.isp_format.specs.Doublewrite.{area, doublewrite_gate, laid}
-use Rattle.isp_format.specs.Log.{IsLog, Transaction, log_of}
+use Rattle.isp_format.specs.Log.{IsLog, log_of}
 use Rattle.isp_format.specs.Ranges.{Contents, puts}
-use Rattle.isp_format.proofs.LogOnce.{log_once}
 use Rattle.isp_format.proofs.Places.{neither}
+use Rattle.isp_format.proofs.Standing.{stands_once}
 use Rattle.isp_frames.specs.Held.{AreClean, now_over}
+use Rattle.isp_frames.specs.declared.cache.Cache.{Cache}
+use Rattle.isp_frames.proofs.PageLaws.{lays_still, pages_same}
+use Rattle.isp_frames.proofs.Staying.{OnlyNow}
 use Rattle.isp_mini.specs.Extents.{extent_cover}
 use Rattle.isp_mini.specs.declared.changes.Extent.{Extent}
-use Rattle.isp_page.specs.Calls.{Adds, AddsNone, LeavesAlone, Passes}
-use Rattle.isp_pool.specs.Frames.{PoolState}
+use Rattle.isp_page.specs.Calls.{Continues, Makes, Tells}
+use Rattle.isp_page.specs.Steps.{AddsNone, LeavesAlone, LeftAs, LeftTelling, Or, Passes, done}
+use Rattle.isp_page.specs.declared.fault.StoreFault.TheVariants.{Disk, Print}
+use Rattle.isp_stable.specs.File.{ArePagesOf, IsFile, KeepsShape, KeepsStable, StandsOnly, placed}
 use Rattle.isp_stable.specs.declared.stable.Stable.{Stable}
-use Rattle.isp_stable.specs.File.{IsFile, StandsOnly, flushed}
-use Rattle.isp_stable.proofs.Files.{stands}
+use Rattle.isp_stable.proofs.Files.{stands, stands_now}
+use Rattle.isp_stable.proofs.Moves.{laid_closed}
+use Rattle.isp_store.specs.Calls.{LeavesWhole}
 use Rattle.isp_store.specs.Running.{IsRunning}
-use Rattle.isp_store.specs.State.{StoreState, clock, contents, left_since, may_leave, told}
-use Rattle.isp_store.specs.declared.standing.Standing.{Standing}
-use Rattle.isp_store.specs.declared.standing.Standing.TheVariants.{Failed, Sound, Undecided}
+use Rattle.isp_store.specs.State.{StoreState, clock, contents, left_since, may_leave, shape, store, told}
 
--- an image stands for one contents
-pub stands_once : (image : Image) (one other : Contents) → StandsFor image one → StandsFor image other → one ≡ other
-stands_once image one other a b =
-    let same = log_once (pages_in image) (log_of image) 0 a.batches b.batches a.end b.end a.control.pages.1 a.log b.log in
-    a.contents_are ∙ ap (λ (bs : List (List Transaction)). puts (ranges_of bs) (laid image)) same.0 ∙ sym b.contents_are
-
-pub only_contents : (image : Image) (one : Contents) (left : Option Contents) → StandsFor image one → IsContentsOf image left → left ≡ Some one
-only_contents image one (Some other) has is = ap Some (stands_once image other one is has)
-only_contents image one None has is = absurd (is one has)
-
--- nothing was printed
-pub no_part : (before said : Option (List ℕ)) → said ≡ before → PrintsPart before [] said
-no_part before said same = record { count = 0; within = omega arith; printed = same ∙ sym (told_nothing before) }
-
--- a standing that is sound or failed is not undecided
-pub failed_decided : Failed ≡ Undecided → ⊥
-failed_decided is = absurd (cc)
-
-pub sound_decided : (standing : Standing) → standing ≡ Sound → standing ≡ Undecided → ⊥
-sound_decided standing sound is = both (sym sound ∙ is)
-  where
-    both : Sound ≡ Undecided → ⊥
-    both same = absurd (cc)
+shape_is : {W : Type 0} (g : Ghosts W) (old new : StoreState W) → KeepsShape old.stable new.stable → shape g new ≡ shape g old
+shape_is g old new kept i = record { pages = kept.pages i; fanout = kept.fanout i }
 
 module _ {W : Type 0} (g : Ghosts W) where
   -- the law of a world: what a stop now may leave is left since any earlier time
   abbrev pub CountsNow : Type 0
-  CountsNow = (world : W) (t : ℕ) (left : Image) → IsSome (g.printed world) → t ≤ g.clock world → Agree (g.pending world) (g.image world) left → g.left_since world t left (g.printed world)
-
-  -- a stop within the call leaves contents with P, which could be left before it or may be after it
-  pub passes : (old new : StoreState W) (P : Contents → Type 0) → StandsOnly g old.stable.world new.stable.world P → ((left : Contents) → P left → may_leave g old left ⊎ may_leave g new left) → Passes (clock g) (left_since g) (may_leave g) (told g) [] old new
-  passes old new P leaves may = record {
-    later = leaves.later;
-    nothing_else = λ t left said le since. ⊎_elim
-        (λ before. inl (since.0, before, since.2))
-        (λ has. inr (record {
-          contents = has.0.0;
-          there = only_contents since.0 has.0.0 left has.0.1 since.2;
-          may = may has.0.0 has.0.2;
-          part = no_part (told g old) said has.1;
-        }))
-        (leaves.before t since.0 said le since.1);
-  }
-
-  -- what a stop may leave after the call has P
-  pub may_have : CountsNow → (old new : StoreState W) (P : Contents → Type 0) → IsSome (told g old) → told g new ≡ told g old → StandsOnly g old.stable.world new.stable.world P → (new.standing ≡ Undecided → ⊥) → (left : Contents) → may_leave g new left → P left
-  may_have counts old new P tells same leaves sound left can = ⊎_elim
-      (λ moment.
-      let since = counts new.stable.world (g.clock old.stable.world) moment.0 (subst IsSome (sym same) tells) leaves.later moment.1 in
-      let has = leaves.each moment.0 (g.printed new.stable.world) since in
-      subst P (stands_once moment.0 has.0.0 left has.0.1 moment.2) has.0.2)
-      (λ undecided. absurd (sound undecided.0))
-      can
+  CountsNow = (world : W) (t : ℕ) (left : Image) → g.tells → t ≤ g.clock world → Agree (g.pending world) (g.image world) left → g.left_since world t left (g.printed world)
 
   -- what the file stands for may be left
-  pub could : (s : StoreState W) (file : IsFile g s.stable) → may_leave g s (flushed g s.stable file.batches)
-  could s file = inl (g.image s.stable.world, agree_self (g.pending s.stable.world) (g.image s.stable.world), stands g s.stable file)
+  pub could : (s : StoreState W) (left : Contents) → StandsFor (g.image s.stable.world) left → may_leave g s left
+  could s left is = (g.image s.stable.world, agree_self (g.pending s.stable.world) (g.image s.stable.world), is)
 
-  pub could_be : (s : StoreState W) (file : IsFile g s.stable) (left : Contents) → left ≡ flushed g s.stable file.batches → may_leave g s left
-  could_be s file left is = subst (may_leave g s) (sym is) (could s file)
-
-  -- a call within which a stop leaves what the file stood for before
-  pub calm_time : (old new : StoreState W) (file : IsFile g old.stable) → StandsOnly g old.stable.world new.stable.world (λ left. left ≡ flushed g old.stable file.batches) → Passes (clock g) (left_since g) (may_leave g) (told g) [] old new
-  calm_time old new file leaves = passes old new (λ left. left ≡ flushed g old.stable file.batches) leaves (λ left is. inl (could_be old file left is))
-
-  pub calm_stops : CountsNow → (old new : StoreState W) (file : IsFile g old.stable) → IsSome (told g old) → told g new ≡ told g old → StandsOnly g old.stable.world new.stable.world (λ left. left ≡ flushed g old.stable file.batches) → (new.standing ≡ Undecided → ⊥) → AddsNone (may_leave g old) (may_leave g new)
-  calm_stops counts old new file tells same leaves sound left can = could_be old file left (may_have counts old new (λ c. c ≡ flushed g old.stable file.batches) tells same leaves sound left can)
-
-  -- a call that did nothing to the world, the frames and the standing
-  pub still_time : (old new : StoreState W) → new.stable ≡ old.stable → Passes (clock g) (left_since g) (may_leave g) (told g) [] old new
-  still_time old new same = record {
-    later = subst (λ (s : _). g.clock old.stable.world ≤ g.clock s.world) (sym same) (omega arith);
-    nothing_else = λ t left said le since. inl (subst (λ (s : _). (image : Image) × g.left_since s.world t image said × IsContentsOf image left) same since);
+  -- each stop within a call leaves contents that may be left
+  passes : (old new : StoreState W) (May Q : Contents → Type 0) → StandsOnly g old.stable new.stable.world May → ((left : Contents) → May left → Q left) → Passes (clock g) (left_since g) old new (LeftAs Q (shape g old) (told g old))
+  passes old new May Q leaves may = record {
+    onward = leaves.later;
+    moments = λ t image told le since. ⊎_elim (λ before. inl before)
+        (λ has. inr (record {
+          left = record { contents = has.0.contents; stands = has.0.stands; pages = has.0.pages; fanout = has.0.fanout; may_be = may has.0.contents has.0.has };
+          silent = has.1;
+        }))
+        (leaves.before t image told le since);
   }
 
-  -- a print leaves what the file stands for, and of the line a part
-  pub tell_time : (old new : StoreState W) (file : IsFile g old.stable) (line : List ℕ) → Quiet (g.pending old.stable.world) → Elapses (g.clock old.stable.world) (g.clock new.stable.world) (g.left_since old.stable.world) (g.left_since new.stable.world) (During (g.image old.stable.world) (g.pending old.stable.world) no_place (g.printed old.stable.world) line) → Passes (clock g) (left_since g) (may_leave g) (told g) line old new
-  tell_time old new file line quiet time = record {
-    later = time.later;
-    nothing_else = λ t left said le since. ⊎_elim
-        (λ before. inl (since.0, before, since.2))
-        (λ during.
-        let same : g.image old.stable.world ≡ since.0 = λ i place. during.agree place (neither (g.pending old.stable.world place) false (quiet place) refl) i in
-        inr (record {
-          contents = flushed g old.stable file.batches;
-          there = only_contents since.0 (flushed g old.stable file.batches) left (subst (λ (image : Image). StandsFor image (flushed g old.stable file.batches)) same (stands g old.stable file)) since.2;
-          may = inl (could old file);
-          part = during.part;
-        }))
-        (time.nothing_else t since.0 said le since.1);
+  -- what a stop may leave after the call
+  may_have : CountsNow → (old new : StoreState W) (May : Contents → Type 0) → g.tells → StandsOnly g old.stable new.stable.world May → (left : Contents) → may_leave g new left → May left
+  may_have counts old new May tells leaves left moment =
+      let since = counts new.stable.world (g.clock old.stable.world) moment.0 tells leaves.later moment.1 in
+      let has = leaves.each moment.0 (g.printed new.stable.world) since in
+      subst May (stands_once moment.0 has.0.contents left has.0.stands moment.2) has.0.has
+
+  -- what a stop leaves of the old image, and of the contents as they were
+  abbrev MayLog : StoreState W → Contents → Type 0
+  MayLog old = Or (StandsFor (g.image old.stable.world)) (λ left. left ≡ contents g old)
+
+  could_log : (old : StoreState W) (left : Contents) → MayLog old left → Or (may_leave g old) (λ contents_left. contents_left ≡ contents g old) left
+  could_log old left which = ⊎_elim (λ is. inl (could old left is)) (λ is. inr is) which
+
+  -- a call that came about, and one that failed
+
+  pub continues_ok : {A T E : Type 0} → CountsNow → (old new : StoreState W) (a : A) (t : T) → new.is_usable ≡ true → KeepsStable {T = A} {E = E} g old.stable new.stable (Ok a)
+      → (g.tells → StandsOnly g old.stable new.stable.world (StandsFor (g.image old.stable.world))) → Continues {T = T} (store g) old new (Ok t)
+  continues_ok counts old new a t sound kept leaves = record {
+    keeps = record {
+      same_shape = shape_is g old new kept.shape;
+      silent = kept.calls.printed;
+      printer = kept.calls.printer;
+      later = kept.calls.cause.later;
+      goes_on = record { steady = kept.calls.cause.steady; can = sound };
+      cause = tt;
+    };
+    stops = λ tells left can. could old left (may_have counts old new (StandsFor (g.image old.stable.world)) tells (leaves tells) left can);
+    time = λ tells. passes old new (StandsFor (g.image old.stable.world)) (may_leave g old) (leaves tells) (could old);
+  }
+
+  pub continues_err : {A T E : Type 0} → CountsNow → (old new : StoreState W) (e : E) → KeepsStable {T = A} {E = E} g old.stable new.stable (Err e)
+      → (g.tells → StandsOnly g old.stable new.stable.world (StandsFor (g.image old.stable.world))) → Continues {T = T} (store g) old new (Err Disk)
+  continues_err counts old new e kept leaves = record {
+    keeps = record {
+      same_shape = shape_is g old new kept.shape;
+      silent = kept.calls.printed;
+      printer = kept.calls.printer;
+      later = kept.calls.cause.later;
+      goes_on = tt;
+      cause = kept.calls.cause.failed;
+    };
+    stops = λ tells left can. could old left (may_have counts old new (StandsFor (g.image old.stable.world)) tells (leaves tells) left can);
+    time = λ tells. passes old new (StandsFor (g.image old.stable.world)) (may_leave g old) (leaves tells) (could old);
+  }
+
+  pub makes_ok : {A T E : Type 0} → CountsNow → (old new : StoreState W) (a : A) (t : T) → new.is_usable ≡ true → KeepsStable {T = A} {E = E} g old.stable new.stable (Ok a)
+      → (g.tells → StandsOnly g old.stable new.stable.world (MayLog old)) → Makes {T = T} (store g) (contents g old) old new (Ok t)
+  makes_ok counts old new a t sound kept leaves = record {
+    keeps = record {
+      same_shape = shape_is g old new kept.shape;
+      silent = kept.calls.printed;
+      printer = kept.calls.printer;
+      later = kept.calls.cause.later;
+      goes_on = record { steady = kept.calls.cause.steady; can = sound };
+      cause = tt;
+    };
+    stops = λ tells left can. could_log old left (may_have counts old new (MayLog old) tells (leaves tells) left can);
+    time = λ tells. passes old new (MayLog old) _ (leaves tells) (could_log old);
+  }
+
+  pub makes_err : {A T E : Type 0} → CountsNow → (old new : StoreState W) (e : E) → KeepsStable {T = A} {E = E} g old.stable new.stable (Err e)
+      → (g.tells → StandsOnly g old.stable new.stable.world (MayLog old)) → Makes {T = T} (store g) (contents g old) old new (Err Disk)
+  makes_err counts old new e kept leaves = record {
+    keeps = record {
+      same_shape = shape_is g old new kept.shape;
+      silent = kept.calls.printed;
+      printer = kept.calls.printer;
+      later = kept.calls.cause.later;
+      goes_on = tt;
+      cause = kept.calls.cause.failed;
+    };
+    stops = λ tells left can. could_log old left (may_have counts old new (MayLog old) tells (leaves tells) left can);
+    time = λ tells. passes old new (MayLog old) _ (leaves tells) (could_log old);
   }
 
   -- a quiet file leaves what it stands for alone
-  pub flushed_alone : (s : StoreState W) (file : IsFile g s.stable) → Quiet (g.pending s.stable.world) → s.standing ≡ Sound → contents g s ≡ flushed g s.stable file.batches → LeavesAlone (contents g s) (may_leave g s)
-  flushed_alone s file quiet sound now left can = ⊎_elim
-      (λ moment.
+  pub flushed_alone : (s : StoreState W) → Quiet (g.pending s.stable.world) → StandsFor (g.image s.stable.world) (contents g s) → LeavesAlone (contents g s) (may_leave g s)
+  flushed_alone s quiet stood left moment =
       let same : g.image s.stable.world ≡ moment.0 = λ i place. moment.1 place (quiet place) i in
-      stands_once moment.0 left (flushed g s.stable file.batches) moment.2 (subst (λ (image : Image). StandsFor image (flushed g s.stable file.batches)) same (stands g s.stable file)) ∙ sym now)
-      (λ undecided. absurd (sound_decided s.standing sound undecided.0))
-      can
-
-  -- a finish adds its contents at the most
-  pub finish_stops : CountsNow → (old new : StoreState W) (file : IsFile g old.stable) → IsSome (told g old) → told g new ≡ told g old → contents g new ≡ contents g old → StandsOnly g old.stable.world new.stable.world (λ left. (left ≡ flushed g old.stable file.batches) ⊎ (left ≡ contents g old)) → Adds (contents g old) (may_leave g old) (may_leave g new)
-  finish_stops counts old new file tells same now leaves left can = ⊎_elim
-      (λ moment.
-      let since = counts new.stable.world (g.clock old.stable.world) moment.0 (subst IsSome (sym same) tells) leaves.later moment.1 in
-      let has = leaves.each moment.0 (g.printed new.stable.world) since in
-      let is = stands_once moment.0 left has.0.0 moment.2 has.0.1 in
-      ⊎_elim (λ e. inl (could_be old file left (is ∙ e))) (λ e. inr (is ∙ e)) has.0.2)
-      (λ undecided. inr (undecided.1 ∙ now))
-      can
-
-  pub finish_time : (old new : StoreState W) (file : IsFile g old.stable) → may_leave g new (contents g old) → StandsOnly g old.stable.world new.stable.world (λ left. (left ≡ flushed g old.stable file.batches) ⊎ (left ≡ contents g old)) → Passes (clock g) (left_since g) (may_leave g) (told g) [] old new
-  finish_time old new file can leaves = passes old new (λ left. (left ≡ flushed g old.stable file.batches) ⊎ (left ≡ contents g old)) leaves
-      (λ left which. ⊎_elim (λ e. inl (could_be old file left e)) (λ e. inr (subst (may_leave g new) (sym e) can)) which)
-
-  -- a finish that failed leaves it open whether its contents are there
-  pub undecided_can : (old new : StoreState W) → new.standing ≡ Undecided → contents g new ≡ contents g old → may_leave g new (contents g old)
-  undecided_can old new is now = inr (is, sym now)
-
-  -- a finish that did not fail leaves its contents
-  pub finished_can : (old new : StoreState W) (later : IsFile g new.stable) → contents g new ≡ flushed g new.stable later.batches → contents g new ≡ contents g old → may_leave g new (contents g old)
-  finished_can old new later flushed_is now = could_be new later (contents g old) (sym now ∙ flushed_is)
+      stands_once moment.0 left (contents g s) moment.2 (subst (λ (image : Image). StandsFor image (contents g s)) same stood)
 
   -- the file behind a call that left its image
-  abbrev pub file_told : (s : Stable W) (world : W) → g.image world ≡ g.image s.world → IsFile g s → IsFile g (record s { world = world })
+  abbrev file_told : (s : Stable W) (world : W) → g.image world ≡ g.image s.world → IsFile g s → IsFile g (record s { world = world })
   file_told s world same file = record {
     control = subst IsControl (sym same) file.control;
     pages = ap pages_in same ∙ file.pages;
@@ -161,30 +145,93 @@ module _ {W : Type 0} (g : Ghosts W) where
     log = subst (λ (image : Image). IsLog s.pages (log_of image) 0 file.batches s.log.end) (sym same) file.log;
   }
 
-  pub running_told : (s : Stable W) (world : W) (pool : PoolState) (extents : List Extent) → Keeps (g.image s.world) (g.pending s.world) (g.image world) (g.pending world) → (IsSome (g.printed world) → IsSome (g.printed s.world)) → IsRunning g s pool extents → IsRunning g (record s { world = world }) pool extents
-  running_told s world pool extents keeps told running = record {
+  -- the cache with another world
+  abbrev pub with_world : Cache W → W → Cache W
+  with_world s world = record s { stable = record s.stable { world = world } }
+
+  pub running_told : (s : Cache W) (world : W) (extents : List Extent) → Keeps (g.image s.stable.world) (g.pending s.stable.world) (g.image world) (g.pending world) → IsRunning g s extents → IsRunning g (with_world s world) extents
+  running_told s world extents keeps running = record {
     quiet = λ place. keeps.no_more place (running.quiet place);
     frames = running.frames;
     room = running.room;
+    batch = running.batch;
     along = λ tells.
-        let along = running.along (told tells) in
-        let same : area (g.image world) ≡ area (g.image s.world) = ap area keeps.same in
+        let along = running.along tells in
+        let same : area (g.image world) ≡ area (g.image s.stable.world) = ap area keeps.same in
         record {
-          file = file_told s world keeps.same along.file;
-          clean = subst (λ (contents : Contents). AreClean pool.frames contents) (sym same) along.clean;
-          differs = subst (λ (contents : Contents). Agree (extent_cover extents) (puts (ranges_of along.file.batches) contents) (now_over pool.frames contents)) (sym same) along.differs;
+          file = file_told s.stable world keeps.same along.file;
+          clean = subst (AreClean s.pool.frames) (sym same) along.clean;
+          differs = subst (λ (contents : Contents). Agree (extent_cover extents) (puts (ranges_of along.file.batches) contents) (now_over s.pool.frames contents)) (sym same) along.differs;
         };
   }
 
--- what tells after a print told before it
-pub told_before : {T E : Type 0} (before now : Option (List ℕ)) (piece : List ℕ) (result : Result T E) → Prints before piece now result → IsSome now → IsSome before
-told_before before now piece (Ok x) prints some = behind before piece (subst IsSome prints.whole some)
-  where
-    behind : (before : Option (List ℕ)) (piece : List ℕ) → IsSome (told_behind before piece) → IsSome before
-    behind None piece some = some
-    behind (Some bytes) piece some = refl
-told_before before now piece (Err e) prints some = behind before (take prints.part.count piece) (subst IsSome prints.part.printed some)
-  where
-    behind : (before : Option (List ℕ)) (piece : List ℕ) → IsSome (told_behind before piece) → IsSome before
-    behind None piece some = some
-    behind (Some bytes) piece some = refl
+  -- a print leaves the pages as they stand
+  pub whole_told : (old new : StoreState W) (line : List ℕ) → (g.tells → IsFile g old.stable) → (g.tells → IsFile g new.stable) → Quiet (g.pending old.stable.world) → OnlyNow g old.stable.world
+      → Elapses (g.clock old.stable.world) (g.clock new.stable.world) (g.left_since old.stable.world) (g.left_since new.stable.world) (During (g.image old.stable.world) (g.pending old.stable.world) no_place (g.printed old.stable.world) line) → LeavesWhole g old new done
+  whole_told old new line file after quiet only time = record {
+    pages = λ tells.
+        goes_on g.clock g.left_since old.stable.world old.stable.world new.stable.world (λ left told. ArePagesOf (placed g old.stable) (contents g old) (laid left)) _ (lays_still g old.stable (contents g old) (file tells) quiet only) time
+        (λ left told during.
+        let same : g.image old.stable.world ≡ left = λ i place. during.agree place (neither (g.pending old.stable.world place) false (quiet place) refl) i in
+        pages_same (placed g old.stable) (contents g old) (laid left) (ap laid (sym same) ∙ laid_closed (g.image old.stable.world) (file tells).closed));
+    file = after;
+  }
+
+  -- what a print tells, done or failed
+
+  tell_stops : (old new : StoreState W) → Keeps (g.image old.stable.world) (g.pending old.stable.world) (g.image new.stable.world) (g.pending new.stable.world) → AddsNone (may_leave g old) (may_leave g new)
+  tell_stops old new keeps left moment = (moment.0, (λ place out. (λ i. sym keeps.same i place) ∙ moment.1 place (keeps.no_more place out)), moment.2)
+
+  tell_time : (old new : StoreState W) (line : List ℕ) → IsFile g old.stable → Quiet (g.pending old.stable.world)
+      → Elapses (g.clock old.stable.world) (g.clock new.stable.world) (g.left_since old.stable.world) (g.left_since new.stable.world) (During (g.image old.stable.world) (g.pending old.stable.world) no_place (g.printed old.stable.world) line)
+      → Passes (clock g) (left_since g) old new (LeftTelling (may_leave g old) (shape g old) (told g old) line)
+  tell_time old new line file quiet time = record {
+    onward = time.later;
+    moments = λ t image told le since. ⊎_elim (λ before. inl before)
+        (λ during.
+        let left = stands_now g old.stable file image (λ place. during.agree place (neither (g.pending old.stable.world place) false (quiet place) refl)) in
+        inr (record {
+          left = record {
+            contents = left.contents;
+            stands = left.stands;
+            pages = left.pages;
+            fanout = left.fanout;
+            may_be = could old left.contents (subst (StandsFor (g.image old.stable.world)) (sym left.has) (stands g old.stable file));
+          };
+          part = during.part;
+        }))
+        (time.nothing_else t image told le since);
+  }
+
+  -- the print of a line, and how it ended
+  pub record Printed {T E : Type 0} (old new : StoreState W) (line : List ℕ) (result : Result T E) : Type 0 where
+    pub same_shape : KeepsShape old.stable new.stable
+    pub printed : g.tells → Prints (told g old) line (told g new) result
+    pub disk : g.disk_faults new.stable.world ≡ g.disk_faults old.stable.world
+    pub cause : HasCause (g.print_faults old.stable.world) (g.print_faults new.stable.world) result
+    pub keeps : Keeps (g.image old.stable.world) (g.pending old.stable.world) (g.image new.stable.world) (g.pending new.stable.world)
+    pub time : Elapses (g.clock old.stable.world) (g.clock new.stable.world) (g.left_since old.stable.world) (g.left_since new.stable.world) (During (g.image old.stable.world) (g.pending old.stable.world) no_place (g.printed old.stable.world) line)
+
+  pub tells_ok : {T E : Type 0} (old new : StoreState W) (line : List ℕ) (t : T) → (g.tells → IsFile g old.stable) → Quiet (g.pending old.stable.world) → new.is_usable ≡ true → Printed {T = T} {E = E} old new line (Ok t) → Tells {T = T} (store g) line old new (Ok t)
+  tells_ok old new line t file quiet sound done = record {
+    same_shape = shape_is g old new done.same_shape;
+    printed = λ tells. let printed = done.printed tells in record { whole = printed.whole; part = tt };
+    disk = done.disk;
+    cause = record { later = done.cause.later; steady = done.cause.steady; failed = tt };
+    by_print = tt;
+    can = sound;
+    stops = λ tells. tell_stops old new done.keeps;
+    time = λ tells. tell_time old new line (file tells) quiet done.time;
+  }
+
+  pub tells_err : {T E : Type 0} (old new : StoreState W) (line : List ℕ) (e : E) → (g.tells → IsFile g old.stable) → Quiet (g.pending old.stable.world) → new.is_usable ≡ true → Printed {T = T} {E = E} old new line (Err e) → Tells {T = T} (store g) line old new (Err Print)
+  tells_err old new line e file quiet sound done = record {
+    same_shape = shape_is g old new done.same_shape;
+    printed = λ tells. let printed = done.printed tells in record { whole = tt; part = printed.part };
+    disk = done.disk;
+    cause = record { later = done.cause.later; steady = tt; failed = done.cause.failed };
+    by_print = refl;
+    can = sound;
+    stops = λ tells. tell_stops old new done.keeps;
+    time = λ tells. tell_time old new line (file tells) quiet done.time;
+  }

@@ -1,41 +1,32 @@
 -- A running store whose open mini-transaction put bytes into a page.
 use Rattle.std.proofs.Common.{◌≡◌, ◌⊎◌, inl, inr, ⊎_elim, ℕ, ◌+◌, ◌*◌, ◌<◌, ◌≤◌, Bool, true, false, List, Option, Some, None, length, refl, sym, ◌∙◌, ap, subst, arith}
-use Rattle.std.specs.Prelude.{IsSome, cond, nat_lt}
+use Rattle.std.specs.Prelude.{cond, nat_lt}
 use Rattle.std.specs.List.{position, position_or_len}
 use Rattle.std.specs.Option.{is_none, option_or}
 use Rattle.std.proofs.lemmas.Bool.{cases_eq, false≢true}
 use Rattle.std.proofs.lemmas.List.Quantifiers.{position-Some}
 use Rattle.std.proofs.lemmas.List.Sums.{fails_before_first}
 use Rattle.std.proofs.lemmas.Bool.Decides.{nat_tests}
-use Rattle.isp_disk.specs.Moments.{Quiet, put}
+use Rattle.isp_disk.specs.Moments.{put}
 use Rattle.isp_disk.specs.declared.world.World.{Ghosts}
-use Rattle.isp_format.specs.Log.{Transaction, log_bytes, log_of}
+use Rattle.isp_format.specs.Log.{log_bytes}
 use Rattle.isp_format.specs.Ranges.{Contents, page_bytes}
-use Rattle.isp_format.proofs.LogOnce.{log_once}
-use Rattle.isp_frames.specs.Held.{AreClean, IsHeldAt, now_over}
-use Rattle.isp_frames.proofs.NowLaws.{AreApart, changed_clean, changed_now, edited_is, flagged_now, frame_below, overwrite, pinned_clean, set_here, some_is}
+use Rattle.isp_frames.specs.Cached.{now}
+use Rattle.isp_frames.specs.Held.{AreApart, AreClean, IsHeldAt, now_over}
+use Rattle.isp_frames.specs.declared.cache.Cache.{Cache}
+use Rattle.isp_frames.proofs.NowLaws.{changed_clean, changed_now, edited_is, flagged_now, frame_below, overwrite, pinned_clean, set_here, some_is}
 use Rattle.isp_mini.specs.Extents.{largest_body, with_extent}
 use Rattle.isp_mini.specs.declared.changes.Extent.{Extent}
 use Rattle.isp_mini.proofs.ExtentLaws.{change_agrees}
-use Rattle.isp_page.specs.declared.page.PageNo.{PageNo}
+use Rattle.isp_base.specs.declared.page_no.PageNo.{PageNo}
 use Rattle.isp_pool.specs.Frames.{PoolState, changed, frame_at, frame_in, is_held, is_unpinned, loaded, page_of as page_in, victim_of, with_frame}
 use Rattle.isp_pool.specs.declared.frames.Frame.{Frame}
 use Rattle.isp_pool.proofs.PoolLaws.{length-overwritten}
 use Rattle.isp_pool.proofs.StateLaws.{edited_count, edited_other, loaded_count, loaded_here, loaded_other}
 use Rattle.isp_recency.specs.Recent.{last_where}
-use Rattle.isp_stable.specs.File.{IsFile, StandsOnly, flushed, placed}
-use Rattle.isp_stable.specs.declared.stable.Stable.{Stable}
+use Rattle.isp_stable.specs.File.{flushed, placed}
 use Rattle.isp_store.specs.Running.{AreAllHeld, AreFrames, HoldSame, IsAlong, IsFree, IsHeldAfter, IsRunning}
-use Rattle.isp_store.proofs.Keeping.{IsSame, frames_edited, frames_pinned, with_set}
-
-module _ {W : Type 0} (g : Ghosts W) where
-  -- a file has one list of batches
-  pub one_file : (s : Stable W) (one other : IsFile g s) → one.batches ≡ other.batches
-  one_file s one other = (log_once s.pages (log_of (g.image s.world)) 0 one.batches other.batches s.log.end s.log.end (subst (λ (n : ℕ). n ≤ 65536) one.pages one.control.pages.1) one.log other.log).0
-
-  -- what a stop leaves, by whichever list
-  pub stands_by : (s : Stable W) (new : W) (one other : IsFile g s) → StandsOnly g s.world new (λ contents. contents ≡ flushed g s one.batches) → StandsOnly g s.world new (λ contents. contents ≡ flushed g s other.batches)
-  stands_by s new one other stands = subst (λ (batches : List (List Transaction)). StandsOnly g s.world new (λ contents. contents ≡ flushed g s batches)) (one_file s one other) stands
+use Rattle.isp_store.proofs.Keeping.{IsSame, frames_edited, frames_pinned, with_pool, with_set}
 
 -- an edit of a frame that holds a page sets it
 pub with_is : (s : PoolState) (i : ℕ) (f : Frame) (edit : Frame → Frame) → frame_at s i ≡ Some f → with_frame s i edit ≡ with_set s i (edit f)
@@ -183,29 +174,32 @@ put_count s i at bytes = edited_count (changed s i at bytes) i pin ∙ edited_co
 
 module _ {W : Type 0} (g : Ghosts W) where
   -- it is along after bytes were put
-  pub along_put : (stable : Stable W) (s : PoolState) (i at : ℕ) (bytes : List ℕ) (f : Frame) (extents : List Extent) → AreFrames stable.pages s extents → frame_at s i ≡ Some f → at + length bytes ≤ page_bytes → IsAlong g stable s extents
-      → IsAlong g stable (with_bytes s i at bytes) (with_extent f.page at (at + length bytes) extents)
-  along_put stable s i at bytes f extents are there fits along = record {
+  pub along_put : (s : Cache W) (i at : ℕ) (bytes : List ℕ) (f : Frame) (extents : List Extent) → AreFrames s.stable.pages s.pool extents → frame_at s.pool i ≡ Some f → at + length bytes ≤ page_bytes → IsAlong g s extents
+      → IsAlong g (with_pool s (with_bytes s.pool i at bytes)) (with_extent f.page at (at + length bytes) extents)
+  along_put s i at bytes f extents are there fits along = record {
     file = along.file;
-    clean = clean_put s i at bytes f (placed g stable) there along.clean;
-    differs = λ place out. change_agrees f.page at bytes extents (flushed g stable along.file.batches) (now_over s.frames (placed g stable)) along.differs place out
-        ∙ (λ j. sym (now_put s i at bytes f (placed g stable) are.apart there fits) j place);
+    clean = clean_put s.pool i at bytes f (placed g s.stable) there along.clean;
+    differs = λ place out. change_agrees f.page at bytes extents (flushed g s.stable along.file.batches) (now g s) along.differs place out
+        ∙ (λ j. sym (now_put s.pool i at bytes f (placed g s.stable) are.apart there fits) j place);
   }
 
   -- a running store after bytes were put into the frame that holds the page
-  pub running_put : (stable : Stable W) (s new : PoolState) (extents noted : List Extent) (p : PageNo) (i at : ℕ) (bytes : List ℕ) → Quiet (g.pending stable.world) → AreFrames stable.pages s extents → (IsSome (g.printed stable.world) → IsAlong g stable s extents)
-      → page_in (frame_at s i) ≡ Some p → new ≡ with_bytes s i at bytes → noted ≡ with_extent p at (at + length bytes) extents → 1 ≤ length bytes → at + length bytes ≤ page_bytes → length (with_extent p at (at + length bytes) extents) ≤ 48 → stable.log.end + 5 + largest_body < log_bytes
-      → IsRunning g stable new noted
-  running_put stable s new extents noted p i at bytes quiet are along here put_is noted_is some fits few room =
-      let f = holding s i p here in
+  pub running_put : (s : Cache W) (new : PoolState) (extents noted : List Extent) (p : PageNo) (i at : ℕ) (bytes : List ℕ) → IsRunning g s extents
+      → page_in (frame_at s.pool i) ≡ Some p → new ≡ with_bytes s.pool i at bytes → noted ≡ with_extent p at (at + length bytes) extents → 1 ≤ length bytes → at + length bytes ≤ page_bytes → length (with_extent p at (at + length bytes) extents) ≤ 48 → s.stable.log.end + 5 + largest_body < log_bytes
+      → IsRunning g (with_pool s new) noted
+  running_put s new extents noted p i at bytes running here put_is noted_is some fits few room =
+      let are = running.frames in
+      let f = holding s.pool i p here in
       let wide : (q : PageNo) → List Extent = λ q. with_extent q at (at + length bytes) extents in
-      let frames : AreFrames stable.pages (with_bytes s i at bytes) (wide f.0.page) = frames_put stable.pages s i at bytes f.0 extents are f.1 some fits (subst (λ (q : PageNo). length (wide q) ≤ 48) (sym f.2) few) in
+      let frames : AreFrames s.stable.pages (with_bytes s.pool i at bytes) (wide f.0.page) = frames_put s.stable.pages s.pool i at bytes f.0 extents are f.1 some fits (subst (λ (q : PageNo). length (wide q) ≤ 48) (sym f.2) few) in
       let its : wide f.0.page ≡ noted = ap wide f.2 ∙ sym noted_is in
       record {
-        quiet = quiet;
-        frames = subst (λ (n : PoolState). AreFrames stable.pages n noted) (sym put_is) (subst (λ (es : List Extent). AreFrames stable.pages (with_bytes s i at bytes) es) its frames);
+        quiet = running.quiet;
+        frames = subst (λ (n : PoolState). AreFrames s.stable.pages n noted) (sym put_is) (subst (λ (es : List Extent). AreFrames s.stable.pages (with_bytes s.pool i at bytes) es) its frames);
         room = λ some_open. room;
-        along = λ tells. subst (λ (n : PoolState). IsAlong g stable n noted) (sym put_is) (subst (λ (es : List Extent). IsAlong g stable (with_bytes s i at bytes) es) its (along_put stable s i at bytes f.0 extents are f.1 fits (along tells)));
+        batch = running.batch;
+        along = λ tells. subst (λ (n : PoolState). IsAlong g (with_pool s n) noted) (sym put_is)
+            (subst (λ (es : List Extent). IsAlong g (with_pool s (with_bytes s.pool i at bytes)) es) its (along_put s i at bytes f.0 extents are f.1 fits (running.along tells)));
       }
 
   -- and the contents now

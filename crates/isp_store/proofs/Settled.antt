@@ -1,33 +1,33 @@
 -- A running store with no change open: its contents are those that the file stands for, and with all pages clean those of
 -- the pages in their places.
-use Rattle.std.proofs.Common.{Bool, List, None, Option, Some, [], ap, arith, cond, false, length, refl, subst, suc, sym, true, zero, ℕ, ◌*◌, ◌+◌, ◌-◌, ◌==◌, ◌∙◌, ◌∷◌, ◌≡◌, ◌≤◌}
-use Rattle.std.specs.Prelude.{IsSome, count_by, slice_index}
+use Rattle.std.proofs.Common.{Bool, List, None, Option, Some, [], ap, arith, cond, false, inr, length, refl, subst, suc, sym, true, zero, ℕ, ◌+◌, ◌==◌, ◌∙◌, ◌∷◌, ◌≡◌, ◌<◌, ◌≤◌}
+use Rattle.std.specs.Prelude.{Err, Ok, Result, IfOk, OnOk, count_by}
+use Rattle.std.proofs.lemmas.Result.{on_ok_weaker}
 use Rattle.std.proofs.lemmas.List.Elements.{All-nil}
 use Rattle.std.proofs.lemmas.List.Sums.{sum_by-cons}
-use Rattle.isp_disk.specs.Moments.{Image, Agree, During, Elapses, Quiet, no_place}
-use Rattle.isp_disk.specs.declared.world.World.{Ghosts}
-use Rattle.isp_disk.proofs.Moments.{chains, goes_on, widens}
-use Rattle.isp_format.specs.Ranges.{Contents, page_bytes, page_of}
-use Rattle.isp_format.specs.Doublewrite.{laid}
-use Rattle.isp_format.proofs.Places.{neither}
-use Rattle.isp_frames.specs.Cached.{IsCached, KeepsCached, now}
-use Rattle.isp_frames.specs.Held.{AreClean, IsCleaned, but_dirty, now_over}
-use Rattle.isp_frames.specs.declared.cache.Cache.{Cache}
-use Rattle.isp_frames.proofs.KeptLaws.{cleaned_below, cleaned_count, kept_apart}
-use Rattle.isp_frames.proofs.NowLaws.{AreApart, is_now, page_byte}
-use Rattle.isp_page.specs.declared.page.Page.{Page}
-use Rattle.isp_page.specs.declared.page.PageNo.{PageNo}
-use Rattle.isp_pool.specs.Frames.{PoolState, frame_at, frame_in, is_dirty, is_pinned, one_if, page_of as page_in}
-use Rattle.isp_pool.specs.declared.frames.Frame.{Frame}
-use Rattle.isp_frames.proofs.PageLaws.{lays_still, pages_same, pages_twice}
-use Rattle.isp_stable.proofs.Moves.{laid_closed}
-use Rattle.isp_stable.specs.File.{ArePagesOf, LaysOnly, IsFile, KeepsShape, StandsOnly, flushed, placed}
-use Rattle.isp_stable.specs.declared.stable.Stable.{Stable}
-use Rattle.isp_store.proofs.Keeping.{along_after, cached_of}
 use Rattle.std.proofs.lemmas.Bool.Decides.{nat_tests}
 use Rattle.std.proofs.lemmas.Bool.{false≢true}
+use Rattle.isp_disk.specs.declared.world.World.{Ghosts}
+use Rattle.isp_disk.proofs.Phases.{calls_on}
+use Rattle.isp_format.specs.Contents.{StandsFor}
+use Rattle.isp_format.specs.Ranges.{Contents, page_of}
+use Rattle.isp_format.proofs.Standing.{stands_once}
+use Rattle.isp_frames.specs.Cached.{IsIdle, IsSettled, KeepsCache, KeepsFile, LeavesNow, now}
+use Rattle.isp_frames.specs.Held.{AreApart, CleansSome, IsCleaned, but_dirty}
+use Rattle.isp_frames.specs.declared.cache.Cache.{Cache}
+use Rattle.isp_frames.proofs.KeptLaws.{cleaned_below, cleaned_count, kept_apart}
+use Rattle.isp_frames.proofs.PageLaws.{lays_still, lays_twice}
+use Rattle.isp_frames.proofs.Staying.{OnlyNow, shape_twice, stable_still, stands_still}
+use Rattle.isp_page.specs.declared.page.Page.{Page}
+use Rattle.isp_base.specs.declared.page_no.PageNo.{PageNo}
+use Rattle.isp_pool.specs.Frames.{PoolState, frame_at, frame_in, is_pinned, one_if, page_of as page_in}
+use Rattle.isp_pool.specs.declared.frames.Frame.{Frame}
+use Rattle.isp_stable.specs.File.{flushed}
+use Rattle.isp_stable.proofs.Files.{stands, stands_on, stands_weaker}
+use Rattle.isp_store.proofs.Keeping.{cached_of, running_kept, stays_kept, steady_of}
+use Rattle.isp_mini.specs.Extents.{IsExtent}
 use Rattle.isp_mini.specs.declared.changes.Extent.{Extent}
-use Rattle.isp_store.specs.Running.{AreFrames, HoldSame, IsAlong, IsPinnedIn, IsRunning}
+use Rattle.isp_store.specs.Running.{AreFrames, HoldSame, IsAlong, IsPinnedIn, IsRunning, StandsAlike, StaysRunning}
 
 -- no extent is there where none counts
 pub none_open : (extents : List Extent) → (length extents == 0) ≡ true → extents ≡ []
@@ -87,80 +87,111 @@ cleaned_holds old new cleaned i = same (frame_at new i) (frame_at old i) (cleane
         page_of_some None = f.page
         page_of_some (Some parts) = parts.0
 
--- with all frames clean the contents are the pages in their places
-pub placed_now : (frames : List (Option Frame)) (placed : Contents) → AreApart frames → AreClean frames placed → ((i : ℕ) → is_dirty (frame_in frames i) ≡ false) → now_over frames placed ≡ placed
-placed_now frames placed apart clean none = is_now frames placed placed apart (record {
-  held = λ i f there place is.
-      let bytes : f.content.bytes ≡ page_of placed f.page.0 = clean i f there (ap is_dirty (sym there) ∙ none i) in
-      sym (page_byte placed f.page.0 place is) ∙ ap (λ (bs : List ℕ). slice_index bs (place - f.page.0 * page_bytes)) (sym bytes);
-  beside = λ place out. refl;
-})
-
 module _ {W : Type 0} (g : Ghosts W) where
   -- with no change open the contents are those that the file stands for
-  pub now_flushed : (stable : Stable W) (pool : PoolState) (along : IsAlong g stable pool []) → now_over pool.frames (placed g stable) ≡ flushed g stable along.file.batches
-  now_flushed stable pool along = λ i place. sym (along.differs place refl) i
+  pub stands_running : (s : Cache W) → IsRunning g s [] → g.tells → StandsFor (g.image s.stable.world) (now g s)
+  stands_running s running tells =
+      let along = running.along tells in
+      subst (StandsFor (g.image s.stable.world)) (λ i place. along.differs place refl i) (stands g s.stable along.file)
 
-  -- one call behind another, that stands for the same
-  pub stands_twice : (old mid new : W) (one other : Contents) → StandsOnly g old mid (λ contents. contents ≡ one) → StandsOnly g mid new (λ contents. contents ≡ other) → other ≡ one → g.printed mid ≡ g.printed old → StandsOnly g old new (λ contents. contents ≡ one)
-  stands_twice old mid new one other first second same told =
-      chains g.clock g.left_since old mid new _ first
-      (widens g.clock g.left_since mid new _ _ second (λ left said has. ((has.0.0, has.0.1, has.0.2 ∙ same), has.1 ∙ told)))
+  -- and no page has to stay
+  pub idle_of : (s : Cache W) → IsRunning g s [] → IsIdle g s
+  idle_of s running = record { steady = steady_of g s [] running; unpinned = none_pinned_by s.pool.frames running.frames.pins; room = running.batch }
 
-  -- the store once all its pages are in place and its log is empty
-  pub along_settled : (stable : Stable W) (pool : PoolState) (file : IsFile g stable) → file.batches ≡ [] → AreClean pool.frames (placed g stable) → now_over pool.frames (placed g stable) ≡ placed g stable → IsAlong g stable pool []
-  along_settled stable pool file empty clean same = record {
-    file = file;
-    clean = clean;
-    differs = λ place out. (λ i. flushed g stable (empty i) place) ∙ (λ i. sym same i place);
-  }
+  -- some pages were cleaned
+  pub stays_cleaned : {E : Type 0} (old new : Cache W) (result : Result ℕ E) → IsRunning g old [] → KeepsCache g old new result → IfOk result (CleansSome old.pool new.pool) → StaysRunning g old new [] result
+  stays_cleaned old new (Ok n) running kept cleaned = stays_kept g old new new.pool [] [] (Ok n) running kept (running_kept g old new n [] running (frames_cleaned old.stable.pages old.pool new.pool running.frames cleaned.others) kept)
+  stays_cleaned old new (Err e) running kept cleaned = stays_kept g old new new.pool [] [] (Err e) running kept tt
 
-  -- all pages were written in place
-  pub record IsAllInPlace (old mid : Cache W) (along : IsAlong g old.stable old.pool []) : Type 0 where
-    pub cached : IsCached g mid
-    pub same : flushed g mid.stable cached.file.batches ≡ flushed g old.stable along.file.batches
-    pub placed_is : placed g mid.stable ≡ now g old
-    pub now_is : now g mid ≡ placed g mid.stable
-    pub flushed_is : flushed g mid.stable cached.file.batches ≡ placed g mid.stable
+  -- a call on the frames leaves the contents as they are
+  pub contents_kept : {T E : Type 0} (old new : Cache W) (extents : List Extent) (result : Result T E) → IsRunning g old extents → KeepsCache g old new result → g.tells → OnOk result (now g new ≡ now g old)
+  contents_kept old new extents result running kept tells = on_ok_weaker result (λ stays. stays.after.contents_are) (kept.stays tells (cached_of g old extents running.frames (running.along tells)))
 
-  pub all_in_place : (old mid : Cache W) (along : IsAlong g old.stable old.pool []) → AreApart mid.pool.frames → KeepsCached g old mid along.file.batches → ((i : ℕ) → is_dirty (frame_at mid.pool i) ≡ false) → IsAllInPlace old mid along
-  all_in_place old mid along apart kept none =
-      let cached = kept.0 in
-      let now_is : now g mid ≡ placed g mid.stable = placed_now mid.pool.frames (placed g mid.stable) apart cached.clean none in
-      let same : flushed g mid.stable cached.file.batches ≡ flushed g old.stable along.file.batches = ap (flushed g mid.stable) kept.1 ∙ kept.2 in
+  -- all pages were written in place, and the log was emptied
+  along_settled : (s : Cache W) → IsSettled g s → g.tells → IsAlong g s []
+  along_settled s settled tells =
+      let there = settled.in_place tells in
       record {
-        cached = cached;
-        same = same;
-        placed_is = sym now_is ∙ kept.3;
-        now_is = now_is;
-        flushed_is = same ∙ sym (now_flushed old.stable old.pool along) ∙ sym kept.3 ∙ now_is;
+        file = there.emptied.0;
+        clean = (settled.idle.steady.cached tells).clean;
+        differs = λ place out. (λ i. flushed g s.stable (there.emptied.1 i) place) ∙ (λ i. there.placed_is i place);
       }
 
-  -- a running store, once some pages were cleaned
-  pub running_cleaned : (old new : Cache W) → IsRunning g old.stable old.pool [] → IsCleaned old.pool new.pool → Quiet (g.pending new.stable.world) → KeepsShape g old.stable new.stable
-      → (IsSome (g.printed old.stable.world) → (cached : IsCached g old) → KeepsCached g old new cached.file.batches) → IsRunning g new.stable new.pool []
-  running_cleaned old new running cleaned quiet shape keeps = record {
-    quiet = quiet;
-    frames = subst (λ (n : ℕ). AreFrames n new.pool []) (sym shape.pages) (frames_cleaned old.stable.pages old.pool new.pool running.frames cleaned);
+  pub running_settled : (old new : Cache W) → IsRunning g old [] → IsCleaned old.pool new.pool → new.stable.pages ≡ old.stable.pages → IsSettled g new → IsRunning g new []
+  running_settled old new running cleaned pages settled = record {
+    quiet = settled.idle.steady.quiet;
+    frames = subst (λ (n : ℕ). AreFrames n new.pool []) (sym pages) (frames_cleaned old.stable.pages old.pool new.pool running.frames cleaned);
     room = λ some. absurd (some refl);
-    along = λ told.
-        let tells = subst IsSome shape.told told in
-        let before = running.along tells in
-        let kept = keeps tells (cached_of g old [] running.frames before) in
-        along_after g old new [] before kept.0 kept.1 kept.2 kept.3;
+    batch = settled.idle.room;
+    along = λ tells. along_settled new settled tells;
   }
 
-  -- one call behind another, by what it leaves of each page
-  pub lays_behind : (old mid new : W) (one other there its : Contents) → LaysOnly g old mid (ArePagesOf one other) → LaysOnly g mid new (ArePagesOf there its) → ArePagesOf one other there → its ≡ other → LaysOnly g old new (ArePagesOf one other)
-  lays_behind old mid new one other there its first second pages same =
-      chains g.clock g.left_since old mid new _ first
-      (widens g.clock g.left_since mid new _ _ second (λ left told has. pages_twice one other there its (laid left) pages same has))
+  pub stays_settled : {T E : Type 0} (old new : Cache W) (result : Result T E) → IsRunning g old [] → KeepsFile g old new result → (g.tells → LeavesNow g old new.stable.world) → OnOk result (IsSettled g new) → OnOk result (IsCleaned old.pool new.pool) → StaysRunning g old new [] result
+  stays_settled old new result running kept leaves settled cleaned = record {
+    stable = kept.stable;
+    running = after result settled cleaned;
+    pages = λ tells. kept.pages tells (cached_of g old [] running.frames (running.along tells));
+    stops = λ tells.
+        let stood = stands_running old running tells in
+        stands_weaker g old.stable new.stable.world _ _ (λ contents is. subst (StandsFor (g.image old.stable.world)) (sym is) stood) (leaves tells stood);
+  }
+    where
+      after : {A B : Type 0} (result : Result A B) → OnOk result (IsSettled g new) → OnOk result (IsCleaned old.pool new.pool) → OnOk result (IsRunning g new [])
+      after (Ok t) is clean = running_settled old new running clean kept.stable.shape.pages is
+      after (Err e) is clean = tt
 
-  -- a print leaves the pages as they stand
-  pub lays_told : (s : Stable W) (world : W) (other : Contents) (line : List ℕ) → IsFile g s → Quiet (g.pending s.world) → ((left : Image) (told : Option (List ℕ)) → g.left_since s.world (g.clock s.world) left told → Agree (g.pending s.world) (g.image s.world) left × (told ≡ g.printed s.world))
-      → Elapses (g.clock s.world) (g.clock world) (g.left_since s.world) (g.left_since world) (During (g.image s.world) (g.pending s.world) no_place (g.printed s.world) line) → LaysOnly g s.world world (ArePagesOf (placed g s) other)
-  lays_told s world other line file quiet only time =
-      goes_on g.clock g.left_since s.world s.world world (λ left told. ArePagesOf (placed g s) other (laid left)) _ (lays_still g s other file quiet only) time
-      (λ left told during.
-      let same : g.image s.world ≡ left = λ i place. during.agree place (neither (g.pending s.world place) false (quiet place) refl) i in
-      pages_same (placed g s) other (laid left) (ap laid (sym same) ∙ laid_closed (g.image s.world) file.closed))
+  alike_settled : (old new : Cache W) → IsRunning g old [] → IsSettled g new → g.tells → now g new ≡ now g old → StandsAlike g old new
+  alike_settled old new running settled tells same =
+      let there = settled.in_place tells in
+      record {
+        contents = same;
+        pages = λ page. inr (ap (λ (contents : Contents). page_of contents page) (there.placed_is ∙ same));
+        stands = λ left is. subst (StandsFor (g.image old.stable.world)) (sym (stands_once (g.image new.stable.world) left (now g new) is there.stands ∙ same)) (stands_running old running tells);
+      }
+
+  -- a store that was just started
+  pub running_started : (s : Cache W) → IsSettled g s → AreApart s.pool.frames → 64 ≤ length s.pool.frames → IsRunning g s []
+  running_started s settled apart many = record {
+    quiet = settled.idle.steady.quiet;
+    frames = record {
+      many = many;
+      apart = apart;
+      below = settled.idle.steady.below;
+      pins = none_count s.pool.frames settled.idle.unpinned;
+      pinned = All-nil (IsPinnedIn s.pool);
+      inside = All-nil (λ (extent : Extent). extent.page.0 < s.stable.pages);
+      extents = record { each = All-nil IsExtent; distinct = tt; few = omega arith };
+    };
+    room = λ some. absurd (some refl);
+    batch = settled.idle.room;
+    along = λ tells. along_settled s settled tells;
+  }
+
+  pub alike_by : {T E : Type 0} (old new : Cache W) (result : Result T E) → IsRunning g old [] → OnOk result (IsSettled g new) → g.tells → OnOk result (now g new ≡ now g old) → OnOk result (StandsAlike g old new)
+  alike_by old new (Ok t) running settled tells same = alike_settled old new running settled tells same
+  alike_by old new (Err e) running settled tells same = tt
+
+  -- no call at all
+  pub stays_still : {T E : Type 0} (s : Cache W) (extents : List Extent) (t : T) → OnlyNow g s.stable.world → IsRunning g s extents → StaysRunning g {T = T} {E = E} s s extents (Ok t)
+  stays_still s extents t only running = record {
+    stable = stable_still g s.stable t running.quiet;
+    running = running;
+    pages = λ tells. lays_still g s.stable (now g s) (running.along tells).file running.quiet only;
+    stops = λ tells.
+        let file = (running.along tells).file in
+        stands_weaker g s.stable s.stable.world _ _ (λ contents is. subst (StandsFor (g.image s.stable.world)) (sym is) (stands g s.stable file)) (stands_still g s.stable file running.quiet only);
+  }
+
+  -- one call behind another that leaves the store alike
+  pub stays_on : {T U E : Type 0} (old mid new : Cache W) (before extents : List Extent) (first : T) (result : Result U E) → StaysRunning g {T = T} {E = E} old mid before (Ok first) → (g.tells → StandsAlike g old mid) → StaysRunning g mid new extents result → StaysRunning g old new extents result
+  stays_on old mid new before extents first result earlier alike call = record {
+    stable = record {
+      shape = shape_twice g old.stable mid.stable new.stable earlier.stable.shape call.stable.shape;
+      quiet = call.stable.quiet;
+      calls = calls_on g old.stable.world mid.stable.world new.stable.world first result earlier.stable.calls call.stable.calls;
+    };
+    running = call.running;
+    pages = λ tells. lays_twice g old mid new (alike tells).pages (alike tells).contents (earlier.pages tells) (call.pages tells);
+    stops = λ tells. stands_on g old.stable mid.stable new.stable.world _ earlier.stable.shape earlier.stable.calls.printed (earlier.stops tells)
+        (stands_weaker g mid.stable new.stable.world _ _ (alike tells).stands (call.stops tells));
+  }

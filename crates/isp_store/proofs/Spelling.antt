@@ -1,13 +1,13 @@
 -- The bytes of an extent in the frame of its page are those of the contents now.
 use Rattle.std.proofs.Common.{◌≡◌, ◌-◌, ℕ, List, Option, Some, None, take, drop, refl, sym, ◌∙◌, ap}
 use Rattle.isp_format.specs.Ranges.{Contents, page_of}
-use Rattle.isp_frames.specs.Held.{now_over}
-use Rattle.isp_frames.proofs.NowLaws.{AreApart, now_page, some_is}
+use Rattle.isp_frames.specs.Held.{AreApart, now_over}
+use Rattle.isp_frames.proofs.NowLaws.{now_page, some_is}
 use Rattle.isp_mini.specs.Extents.{IsExtent, range_in}
 use Rattle.isp_mini.specs.declared.changes.Extent.{Extent}
 use Rattle.isp_mini.proofs.RangeLaws.{page_piece}
 use Rattle.isp_page.specs.declared.page.Page.{Page}
-use Rattle.isp_page.specs.declared.page.PageNo.{PageNo}
+use Rattle.isp_base.specs.declared.page_no.PageNo.{PageNo}
 use Rattle.isp_pool.specs.Frames.{PoolState, content_of, frame_at, page_of as page_in}
 use Rattle.isp_pool.specs.declared.frames.Frame.{Frame}
 

@@ -1,5 +1,6 @@
 pub mod State
 pub mod Running
+pub mod Calls
 pub mod Inside
 pub mod Starting
 pub mod Recovered

@@ -1,18 +1,17 @@
 -- A store of pages as its calls see it: the file, the frames over it, and the mini-transaction that is begun.
-use Rattle.std.specs.Prelude.{◌≡◌, ◌⊎◌, ℕ, ◌+◌, Bool, List, map, Option, count_by}
+use Rattle.std.specs.Prelude.{ℕ, Bool, List, map, count_by}
 use Rattle.isp_disk.specs.Moments.{Image, Agree}
 use Rattle.isp_disk.specs.declared.world.World.{Ghosts}
-use Rattle.isp_format.specs.Contents.{IsContentsOf, StandsFor}
+use Rattle.isp_format.specs.Contents.{StandsFor}
 use Rattle.isp_format.specs.Ranges.{Contents}
 use Rattle.isp_frames.specs.Held.{now_over}
 use Rattle.isp_mini.specs.Extents.{page_number}
 use Rattle.isp_mini.specs.declared.changes.Extent.{Extent}
-use Rattle.isp_page.specs.Calls.{FileShape, MiniTransaction}
+use Rattle.isp_page.specs.State.{FileShape, MiniTransaction}
+use Rattle.isp_page.specs.declared.pages.Pages.{Ghosts as PagesGhosts}
 use Rattle.isp_pool.specs.Frames.{PoolState, is_dirty}
 use Rattle.isp_stable.specs.File.{placed}
 use Rattle.isp_stable.specs.declared.stable.Stable.{Stable}
-use Rattle.isp_store.specs.declared.standing.Standing.{Standing}
-use Rattle.isp_store.specs.declared.standing.Standing.TheVariants.{Undecided}
 
 pub record StoreState (W : Type 0) : Type 0 where
   pub stable : Stable W
@@ -20,28 +19,23 @@ pub record StoreState (W : Type 0) : Type 0 where
   -- what the mini-transaction that is begun changed, in the order of first change
   pub open_ranges : List Extent
   pub is_begun : Bool
-  -- whether a call of the disk failed
-  pub standing : Standing
-  -- how many calls, and how many prints, were refused since then
-  pub refused_calls : ℕ
-  pub refused_prints : ℕ
+  -- no call of the disk has failed
+  pub is_usable : Bool
 
 module _ {W : Type 0} (g : Ghosts W) where
   -- the contents of all pages now
   abbrev pub contents : StoreState W → Contents
   contents s = now_over s.pool.frames (placed g s.stable)
 
-  -- What a stop now may leave: contents that an image stands for which it may leave; and where a finish failed, its own too.
+  -- what a stop now may leave: contents that an image stands for which it may leave
   abbrev pub may_leave : StoreState W → Contents → Type 0
-  may_leave s left =
-      ((image : Image) × Agree (g.pending s.stable.world) (g.image s.stable.world) image × StandsFor image left)
-      ⊎ ((s.standing ≡ Undecided) × (left ≡ contents s))
+  may_leave s left = (image : Image) × Agree (g.pending s.stable.world) (g.image s.stable.world) image × StandsFor image left
 
-  -- what stops since a time left: the contents that the image stands for which was left, if it stands for any
-  abbrev pub left_since : StoreState W → ℕ → Option Contents → Option (List ℕ) → Type 0
-  left_since s t left said = (image : Image) × g.left_since s.stable.world t image said × IsContentsOf image left
+  -- what a stop since a time might have left: the world's own moments
+  abbrev pub left_since : StoreState W → ℕ → Image → List ℕ → Type 0
+  left_since s t image told = g.left_since s.stable.world t image told
 
-  abbrev pub told : StoreState W → Option (List ℕ)
+  abbrev pub told : StoreState W → List ℕ
   told s = g.printed s.stable.world
 
   abbrev pub clock : StoreState W → ℕ
@@ -57,7 +51,24 @@ module _ {W : Type 0} (g : Ghosts W) where
   dirty s = count_by is_dirty s.pool.frames
 
   abbrev pub disk_faults : StoreState W → ℕ
-  disk_faults s = g.disk_faults s.stable.world + s.refused_calls
+  disk_faults s = g.disk_faults s.stable.world
 
   abbrev pub print_faults : StoreState W → ℕ
-  print_faults s = g.print_faults s.stable.world + s.refused_prints
+  print_faults s = g.print_faults s.stable.world
+
+  -- all of these, as the words on pages take them
+  abbrev pub store : PagesGhosts (StoreState W)
+  store = record {
+    tells = g.tells;
+    contents = contents;
+    told = told;
+    may_leave = may_leave;
+    clock = clock;
+    left_since = left_since;
+    shape = shape;
+    mini = mini;
+    dirty = dirty;
+    disk_faults = disk_faults;
+    print_faults = print_faults;
+    usable = λ s. s.is_usable;
+  }

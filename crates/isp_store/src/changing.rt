@@ -1,15 +1,13 @@
 //! Bytes put into a page, by the mini-transaction that is begun.
-ghost use Rattle.std.specs.Prelude.{◌≡◌, ◌≢◌, ℕ, ◌*◌, ◌+◌, ◌<◌, ◌≤◌, [], true, Some, IsSome, OnOk, length, vec_capacity};
+ghost use Rattle.std.specs.Prelude.{◌≡◌, ◌≢◌, ℕ, ◌*◌, ◌+◌, ◌<◌, ◌≤◌, [], true, Some, OnOk, length};
 ghost use Rattle.isp_disk.specs.Moments.{put};
-ghost use Rattle.isp_disk.specs.Outside.{HasCause};
 ghost use Rattle.isp_format.specs.Log.{log_bytes};
 ghost use Rattle.isp_format.specs.Ranges.{page_bytes};
 ghost use Rattle.isp_frames.specs.Cached.{now};
 ghost use Rattle.isp_mini.specs.Extents.{largest_body, with_extent};
-ghost use Rattle.isp_page.specs.Calls.{most_changed};
+ghost use Rattle.isp_page.specs.State.{most_changed};
 ghost use Rattle.isp_pool.specs.Frames.{changed, frame_at, is_held, page_of as page_in, with_frame};
-ghost use Rattle.isp_stable.specs.File.{ArePagesOf, IsFile, KeepsShape, LaysOnly, StandsOnly, flushed, placed};
-ghost use Rattle.isp_store.specs.Running.{IsHeldAfter, IsRunning};
+ghost use Rattle.isp_store.specs.Running.{IsHeldAfter, IsRunning, StaysRunning};
 
 use crate::settling::find_room;
 use isp_disk::{Failed, World};
@@ -26,25 +24,20 @@ pub(crate) fn put_bytes<W: World>(
     at: u16,
     bytes: &[u8],
 ) -> Result<(), Failed>
-    requires running { IsRunning W.World cache.old.stable cache.old.pool changes.old }
+    requires running { IsRunning W.World cache.old changes.old }
     requires page { p.0 < cache.old.stable.pages }
     requires some { 1 ≤ length bytes.now }
     requires inside { at + length bytes.now ≤ page_bytes }
     requires most { length (with_extent p at (at + length bytes.now) changes.old) ≤ most_changed }
     requires log { cache.old.stable.log.end + 5 + largest_body < log_bytes }
-    ensures running { OnOk result (IsRunning W.World cache.new.stable cache.new.pool changes.new) }
-    ensures changes { OnOk result (changes.new ≡ with_extent p at (at + length bytes.now) changes.old) }
-    ensures contents { IsSome (W.printed cache.old.stable.world)
-        → OnOk result (now W.World cache.new ≡ put (now W.World cache.old) (p.0 * page_bytes + at) bytes.now) }
+    ensures kept { StaysRunning W.World cache.old cache.new changes.new result }
+    ensures changes { OnOk result (changes.new
+        ≡ with_extent p at (at + length bytes.now) changes.old) }
+    ensures contents { W.tells → OnOk result (now W.World cache.new
+        ≡ put (now W.World cache.old) (p.0 * page_bytes + at) bytes.now) }
     ensures held { OnOk result (IsHeldAfter p cache.old.pool cache.new.pool) }
-    ensures untouched { (i : ℕ) → page_in (frame_at cache.old.pool i) ≡ Some p → cache.new.stable ≡ cache.old.stable }
-    ensures pages { IsSome (W.printed cache.old.stable.world)
-        → LaysOnly W.World cache.old.stable.world cache.new.stable.world (ArePagesOf (placed W.World cache.old.stable) (now W.World cache.old)) }
-    ensures stops { IsSome (W.printed cache.old.stable.world) → (file : IsFile W.World cache.old.stable)
-        → StandsOnly W.World cache.old.stable.world cache.new.stable.world (λ contents. contents ≡ flushed W.World cache.old.stable file.batches) }
-    ensures room { vec_capacity cache.new.batch ≡ vec_capacity cache.old.batch }
-    ensures shape { KeepsShape W.World cache.old.stable cache.new.stable }
-    ensures cause { HasCause (W.disk_faults cache.old.stable.world) (W.disk_faults cache.new.stable.world) result }
+    ensures untouched { (i : ℕ) → page_in (frame_at cache.old.pool i) ≡ Some p
+        → cache.new.stable ≡ cache.old.stable }
 {
     let frame = cache.hold(p)?;
     prove!(frame < cache.pool.frames());
@@ -57,7 +50,8 @@ pub(crate) fn put_bytes<W: World>(
 fn write_pinned(pool: &mut Pool, frame: usize, at: u16, bytes: &[u8])
     requires held { is_held (frame_at pool.old frame) ≡ true }
     requires inside { at + length bytes.now ≤ page_bytes }
-    ensures { pool.new ≡ with_frame (changed pool.old frame at bytes.now) frame (λ f. record f { pinned = true }) }
+    ensures { pool.new
+        ≡ with_frame (changed pool.old frame at bytes.now) frame (λ f. record f { pinned = true }) }
 {
     pool.change(frame, at, bytes);
     pool.pin(frame);
@@ -71,30 +65,23 @@ pub(crate) fn change_page<W: World>(
     at: u16,
     bytes: &[u8],
 ) -> Result<(), Failed>
-    requires running { IsRunning W.World cache.old.stable cache.old.pool changes.old }
+    requires running { IsRunning W.World cache.old changes.old }
     requires page { p.0 < cache.old.stable.pages }
     requires some { 1 ≤ length bytes.now }
     requires inside { at + length bytes.now ≤ page_bytes }
     requires most { length (with_extent p at (at + length bytes.now) changes.old) ≤ most_changed }
-    requires room { 64 ≤ vec_capacity cache.old.batch }
-    ensures running { OnOk result (IsRunning W.World cache.new.stable cache.new.pool changes.new) }
-    ensures changes { OnOk result (changes.new ≡ with_extent p at (at + length bytes.now) changes.old) }
-    ensures contents { IsSome (W.printed cache.old.stable.world)
-        → OnOk result (now W.World cache.new ≡ put (now W.World cache.old) (p.0 * page_bytes + at) bytes.now) }
+    ensures kept { StaysRunning W.World cache.old cache.new changes.new result }
+    ensures changes { OnOk result (changes.new
+        ≡ with_extent p at (at + length bytes.now) changes.old) }
+    ensures contents { W.tells → OnOk result (now W.World cache.new
+        ≡ put (now W.World cache.old) (p.0 * page_bytes + at) bytes.now) }
     ensures held { OnOk result (IsHeldAfter p cache.old.pool cache.new.pool) }
-    ensures untouched { changes.old ≢ [] → (i : ℕ) → page_in (frame_at cache.old.pool i) ≡ Some p → cache.new.stable ≡ cache.old.stable }
-    ensures pages { IsSome (W.printed cache.old.stable.world)
-        → LaysOnly W.World cache.old.stable.world cache.new.stable.world (ArePagesOf (placed W.World cache.old.stable) (now W.World cache.old)) }
-    ensures stops { IsSome (W.printed cache.old.stable.world) → (file : IsFile W.World cache.old.stable)
-        → StandsOnly W.World cache.old.stable.world cache.new.stable.world (λ contents. contents ≡ flushed W.World cache.old.stable file.batches) }
-    ensures room { 64 ≤ vec_capacity cache.new.batch }
-    ensures shape { KeepsShape W.World cache.old.stable cache.new.stable }
-    ensures cause { HasCause (W.disk_faults cache.old.stable.world) (W.disk_faults cache.new.stable.world) result }
+    ensures untouched { changes.old ≢ [] → (i : ℕ) → page_in (frame_at cache.old.pool i) ≡ Some p
+        → cache.new.stable ≡ cache.old.stable }
 {
     if !changes.is_empty() {
         return put_bytes(cache, changes, p, at, bytes);
     }
     find_room(cache)?;
-    put_bytes(cache, changes, p, at, bytes)?;
-    Ok(())
+    put_bytes(cache, changes, p, at, bytes)
 }

@@ -1,11 +1,9 @@
 //! The end of a mini-transaction.
-ghost use Rattle.std.specs.Prelude.{◌≡◌, ◌≢◌, ◌⊎◌, ◌++◌, [], ◌∷◌, IsSome, OnOk, count_by, length, vec_capacity};
-ghost use Rattle.isp_disk.specs.Outside.{HasCause};
+ghost use Rattle.std.specs.Prelude.{◌≡◌, ◌≢◌, ◌++◌, [], ◌∷◌, OnOk};
 ghost use Rattle.isp_frames.specs.Cached.{now};
 ghost use Rattle.isp_mini.specs.Extents.{ranges_in};
-ghost use Rattle.isp_pool.specs.Frames.{is_dirty};
-ghost use Rattle.isp_stable.specs.File.{ArePagesOf, HasBatches, IsFile, KeepsShape, LaysOnly, StandsOnly, flushed, placed};
-ghost use Rattle.isp_store.specs.Running.{HoldSame, IsRunning};
+ghost use Rattle.isp_stable.specs.File.{HasBatches, IsFile};
+ghost use Rattle.isp_store.specs.Running.{IsRunning, LeavesFrames, StaysLogging};
 
 use crate::logging::{spell, unpin_all};
 use isp_disk::{Failed, World};
@@ -18,25 +16,15 @@ pub(crate) fn log_changes<W: World>(
     changes: &mut Changes,
     body: &mut Body,
 ) -> Result<(), Failed>
-    requires running { IsRunning W.World cache.old.stable cache.old.pool changes.old }
+    requires running { IsRunning W.World cache.old changes.old }
     requires some { changes.old ≢ [] }
-    ensures running { OnOk result (IsRunning W.World cache.new.stable cache.new.pool []) }
+    ensures kept { StaysLogging W.World cache.old cache.new [] result }
     ensures changes { OnOk result (changes.new ≡ []) }
-    ensures contents { IsSome (W.printed cache.old.stable.world) → now W.World cache.new ≡ now W.World cache.old }
-    ensures placed { IsSome (W.printed cache.old.stable.world) → placed W.World cache.new.stable ≡ placed W.World cache.old.stable }
-    ensures logged { IsSome (W.printed cache.old.stable.world) → (file : IsFile W.World cache.old.stable)
-        → OnOk result (HasBatches W.World cache.new.stable (file.batches ++ (ranges_in (now W.World cache.old) changes.old ∷ []) ∷ [])) }
-    ensures held { HoldSame cache.old.pool cache.new.pool }
-    ensures count { length cache.new.pool.frames ≡ length cache.old.pool.frames }
-    ensures dirty { count_by is_dirty cache.new.pool.frames ≡ count_by is_dirty cache.old.pool.frames }
-    ensures pages { IsSome (W.printed cache.old.stable.world)
-        → LaysOnly W.World cache.old.stable.world cache.new.stable.world (ArePagesOf (placed W.World cache.old.stable) (now W.World cache.old)) }
-    ensures stops { IsSome (W.printed cache.old.stable.world) → (file : IsFile W.World cache.old.stable)
-        → StandsOnly W.World cache.old.stable.world cache.new.stable.world (λ contents.
-        (contents ≡ flushed W.World cache.old.stable file.batches) ⊎ (contents ≡ now W.World cache.old)) }
-    ensures room { vec_capacity cache.new.batch ≡ vec_capacity cache.old.batch }
-    ensures shape { KeepsShape W.World cache.old.stable cache.new.stable }
-    ensures cause { HasCause (W.disk_faults cache.old.stable.world) (W.disk_faults cache.new.stable.world) result }
+    ensures contents { W.tells → now W.World cache.new ≡ now W.World cache.old }
+    ensures logged { W.tells → (file : IsFile W.World cache.old.stable)
+        → OnOk result (HasBatches W.World cache.new.stable
+        (file.batches ++ (ranges_in (now W.World cache.old) changes.old ∷ []) ∷ [])) }
+    ensures frames { LeavesFrames cache.old.pool cache.new.pool }
 {
     spell(&cache.pool, changes.extents(), body);
     cache.stable.append(body.as_slice())?;

@@ -6,9 +6,7 @@ mod finishing;
 mod logging;
 mod reading;
 mod settling;
-mod standing;
 mod starting;
 mod store;
 
-pub use standing::Standing;
 pub use store::Store;

@@ -2,8 +2,7 @@
 ghost use Rattle.std.specs.Prelude.{◌≡◌, ℕ, ◌-◌, ◌+◌, ◌≤◌, ◌++◌, [], false, All, Some, drop, length, take};
 ghost use Rattle.isp_format.specs.Log.{range_bytes, transaction_bytes};
 ghost use Rattle.isp_format.specs.Ranges.{Contents};
-ghost use Rattle.isp_frames.proofs.NowLaws.{AreApart};
-ghost use Rattle.isp_frames.specs.Held.{now_over};
+ghost use Rattle.isp_frames.specs.Held.{AreApart, now_over};
 ghost use Rattle.isp_mini.specs.Extents.{AreExtents, IsExtent, largest_body, range_in, ranges_in};
 ghost use Rattle.isp_pool.specs.Frames.{frame_at, page_of as page_in, with_frame};
 ghost use Rattle.isp_store.specs.Running.{AreFrames, IsPinnedIn, IsUnpinned};
@@ -17,7 +16,8 @@ pub(crate) fn spell(pool: &Pool, extents: &[Extent], body: &mut Body)
     requires apart { AreApart pool.now.frames }
     requires pinned { All (IsPinnedIn pool.now) extents.now }
     requires extents { AreExtents extents.now }
-    ensures { (placed : Contents) → body.new ≡ transaction_bytes (ranges_in (now_over pool.now.frames placed) extents.now) }
+    ensures { (placed : Contents) → body.new
+        ≡ transaction_bytes (ranges_in (now_over pool.now.frames placed) extents.now) }
 {
     body.begin(extents.len() as u16);
     for extent in extents {
@@ -31,7 +31,8 @@ fn spell_range(pool: &Pool, extent: &Extent, body: &mut Body)
     requires pinned { IsPinnedIn pool.now extent.now }
     requires extent { IsExtent extent.now }
     requires room { length body.old + 8 + (extent.now.end - extent.now.at) ≤ largest_body }
-    ensures { (placed : Contents) → body.new ≡ body.old ++ range_bytes (range_in (now_over pool.now.frames placed) extent.now) }
+    ensures { (placed : Contents) → body.new
+        ≡ body.old ++ range_bytes (range_in (now_over pool.now.frames placed) extent.now) }
 {
     let page = pool.page(frame_of(pool, extent));
     body.push(extent.page, extent.at, bytes_of(page, extent));
@@ -40,7 +41,8 @@ fn spell_range(pool: &Pool, extent: &Extent, body: &mut Body)
 // The bytes of an extent in its page.
 fn bytes_of<'a>(page: &'a Page, extent: &Extent) -> &'a [u8]
     requires extent { IsExtent extent.now }
-    ensures bytes { result.now ≡ take (extent.now.end - extent.now.at) (drop extent.now.at page.now.bytes) }
+    ensures bytes { result.now
+        ≡ take (extent.now.end - extent.now.at) (drop extent.now.at page.now.bytes) }
     ensures size { length result.now ≡ extent.now.end - extent.now.at }
 {
     &page.bytes[extent.at as usize..extent.end as usize]

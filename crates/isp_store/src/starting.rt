@@ -1,12 +1,8 @@
 //! A store made out of a file: its parts, and the log put into the pages.
-ghost use Rattle.std.specs.Prelude.{◌≡◌, ℕ, ◌≤◌, None, [], length, vec_capacity, IfErr, IfOk, IsSome};
-ghost use Rattle.isp_disk.specs.Moments.{LeavesOnly, Quiet};
-ghost use Rattle.isp_disk.specs.Outside.{Rose};
-ghost use Rattle.isp_format.specs.Control.{IsFanout, IsPages};
-ghost use Rattle.isp_opening.specs.Opening.{LeftOpening, RefusesWith};
-ghost use Rattle.isp_page.specs.declared.fault.StoreFault.TheVariants.{Disk};
-ghost use Rattle.isp_pool.specs.Frames.{frame_at};
-ghost use Rattle.isp_store.specs.Recovered.{IsRecovered};
+ghost use Rattle.std.specs.Prelude.{◌≡◌, ◌≤◌, [], length, vec_capacity, IfErr, IfOk};
+ghost use Rattle.isp_frames.specs.Held.{AreFree};
+ghost use Rattle.isp_opening.specs.Opening.{KeepsWorld, RefusesWith};
+ghost use Rattle.isp_store.specs.Recovered.{IsRecovered, recovered_world};
 
 use isp_disk::World;
 use isp_frames::Cache;
@@ -34,7 +30,7 @@ impl Parts {
     pub fn new(alloc: Global, frames: usize) -> Result<Parts, AllocError>
         requires least { 64 ≤ frames }
         requires most { frames ≤ 4096 }
-        ensures free { IfOk result (λ parts. (i : ℕ) → frame_at parts.pool i ≡ None) }
+        ensures free { IfOk result (λ parts. AreFree parts.pool) }
         ensures count { IfOk result (λ parts. length parts.pool.frames ≡ frames) }
         ensures room { IfOk result (λ parts. 64 ≤ vec_capacity parts.batch) }
         ensures none { IfOk result (λ parts. parts.changes ≡ []) }
@@ -58,21 +54,12 @@ pub(crate) fn recover<W: World>(
     pool: Pool,
     batch: Vec<(PageNo, Page)>,
 ) -> Result<Cache<W>, (StoreFault, W)>
-    requires free { (i : ℕ) → frame_at pool i ≡ None }
+    requires free { AreFree pool }
     requires many { 64 ≤ length pool.frames }
     requires room { 64 ≤ vec_capacity batch }
-    ensures recovered { IfOk result (λ s. IsRecovered W.World world (length pool.frames) s) }
-    ensures refused { IsSome (W.printed world) → IfErr result (λ e. RefusesWith W.World world e.0 e.1) }
-    ensures stops_ok { IsSome (W.printed world) → IfOk result (λ s. LeavesOnly W.clock W.left_since world s.stable.world
-        (LeftOpening (W.pending world) (W.image world) (W.printed world))) }
-    ensures stops_err { IsSome (W.printed world) → IfErr result (λ e. LeavesOnly W.clock W.left_since world e.1
-        (LeftOpening (W.pending world) (W.image world) (W.printed world))) }
-    ensures within { IfOk result (λ s. IsPages s.stable.pages × IsFanout s.stable.fanout) }
-    ensures room { IfOk result (λ s. 64 ≤ vec_capacity s.batch) }
-    ensures cause_ok { IfOk result (λ s. W.disk_faults s.stable.world ≡ W.disk_faults world) }
-    ensures cause_err { IfErr result (λ e. e.0 ≡ Disk → Rose (W.disk_faults world) (W.disk_faults e.1)) }
-    ensures printed_ok { IfOk result (λ s. (W.printed s.stable.world ≡ W.printed world) × (W.print_faults s.stable.world ≡ W.print_faults world)) }
-    ensures printed_err { IfErr result (λ e. (W.printed e.1 ≡ W.printed world) × (W.print_faults e.1 ≡ W.print_faults world)) }
+    ensures recovered { IfOk result (IsRecovered W.World world (length pool.frames)) }
+    ensures refused { IfErr result (λ e. RefusesWith W.World world e.0 e.1) }
+    ensures kept { KeepsWorld W.World world (recovered_world result) }
 {
     let stable = open(world)?;
     let page = Page {

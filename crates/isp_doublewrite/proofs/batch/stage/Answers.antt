@@ -1,37 +1,36 @@
-use Rattle.std.proofs.Common.{◌≡◌, ℕ, suc, ◌+◌, ◌*◌, ◌<◌, ◌≤◌, List, [], ◌∷◌, ◌++◌, length, map, take, get_or, refl, sym, ◌∙◌, ap, subst, arith}
-use Rattle.std.specs.Prelude.{IsSome}
+use Rattle.std.proofs.Common.{◌≡◌, ℕ, suc, ◌+◌, ◌*◌, ◌<◌, List, [], ◌∷◌, ◌++◌, length, map, take, get_or, refl, sym, ◌∙◌, ap, subst, arith, rules}
 use Rattle.std.proofs.lemmas.List.{take_more}
 use Rattle.isp_disk.specs.Moments.{Image, put}
-use Rattle.isp_disk.proofs.Moments.{writes}
-use Rattle.isp_doublewrite.specs.Batches.{AreWhole, number_of, whole_page}
+use Rattle.isp_disk.proofs.Phases.{writes}
+use Rattle.isp_doublewrite.specs.Batches.{AreWhole, whole_page}
 use Rattle.isp_doublewrite.specs.Places.{staged_places}
 use Rattle.isp_doublewrite.proofs.Staging.{count_kept, in_copies, in_list, staged_more, whole_append, whole_map, with_copy}
 use Rattle.isp_format.specs.Doublewrite.{copies_from, copies_place, copy_count, list_place}
 use Rattle.isp_format.specs.Numbers.{bytes_of}
-use Rattle.isp_format.specs.Ranges.{Range, page_bytes}
+use Rattle.isp_format.specs.Ranges.{page_bytes}
 use Rattle.isp_page.specs.declared.page.Page.{Page}
-use Rattle.isp_page.specs.declared.page.PageNo.{PageNo}
+use Rattle.isp_base.specs.declared.page_no.PageNo.{PageNo}
 use Rattle.isp_doublewrite.proofs.batch.stage.Goals as goal
 
-pub returns-in_err-write_number-2-clause-phase : goal.returns-in_err-write_number-2-clause-phase
-returns-in_err-write_number-2-clause-phase g c =
+pub returns-in_err-write_number-2-clause-wrote : goal.returns-in_err-write_number-2-clause-wrote
+returns-in_err-write_number-2-clause-wrote g c =
     let w = g.W.World in
     let old = c.args.world.now in
     let k = c.loop-k.k in
     let small : k < 64 = omega arith in
-    let numbered = writes w.clock w.left_since w.image w.pending w.printed old c.loop-k.world c.write_number-in-loop-k.new.world staged_places c.number_place.result 4 c.loop-k.invariant.phase (λ place out. in_list c.number_place.result 4 place (omega (arith, c.number_place.ensures)) (omega (arith, c.number_place.ensures, small)) out) c.in_err-write_number-2.ensures.disk c.in_err-write_number-2.ensures.printed c.in_err-write_number-2.ensures.time in
-    numbered
+    let numbered = writes w old c.loop-k.world c.write_number-in-loop-k.new.world staged_places c.number_place.result 4 c.loop-k.invariant.phase (λ place out. in_list c.number_place.result 4 place (omega (arith, c.number_place.ensures)) (omega (arith, c.number_place.ensures, small)) out) c.in_err-write_number-2.ensures.write.disk c.in_err-write_number-2.ensures.write.calls.printed c.in_err-write_number-2.ensures.write.time in
+    record { phase = numbered; quiet = search rules; calls = search rules }
 
-pub returns-in_err-write-clause-phase : goal.returns-in_err-write-clause-phase
-returns-in_err-write-clause-phase g c =
+pub returns-in_err-write-clause-wrote : goal.returns-in_err-write-clause-wrote
+returns-in_err-write-clause-wrote g c =
     let w = g.W.World in
     let old = c.args.world.now in
     let k = c.loop-k.k in
     let small : k < 64 = omega arith in
-    let numbered = writes w.clock w.left_since w.image w.pending w.printed old c.loop-k.world c.write_number-in-loop-k.new.world staged_places c.number_place.result 4 c.loop-k.invariant.phase (λ place out. in_list c.number_place.result 4 place (omega (arith, c.number_place.ensures)) (omega (arith, c.number_place.ensures, small)) out) c.in_ok-write_number-2.ensures.disk c.in_ok-write_number-2.ensures.printed c.in_ok-write_number-2.ensures.time in
+    let numbered = writes w old c.loop-k.world c.write_number-in-loop-k.new.world staged_places c.number_place.result 4 c.loop-k.invariant.phase (λ place out. in_list c.number_place.result 4 place (omega (arith, c.number_place.ensures)) (omega (arith, c.number_place.ensures, small)) out) c.in_ok-write_number-2.ensures.write.disk c.in_ok-write_number-2.ensures.write.calls.printed c.in_ok-write_number-2.ensures.write.time in
     let size = length c.all_bytes.result.now in
-    let copied = writes w.clock w.left_since w.image w.pending w.printed old c.write_number-in-loop-k.new.world c.write.new.self staged_places c.copy_place.result size numbered (λ place out. in_copies c.copy_place.result size place (omega (arith, c.copy_place.ensures)) (omega (arith, c.copy_place.ensures, small, c.all_bytes.ensures.size)) out) c.in_err-write.ensures.disk c.in_err-write.ensures.printed c.in_err-write.ensures.time in
-    copied
+    let copied = writes w old c.write_number-in-loop-k.new.world c.write.new.self staged_places c.copy_place.result size numbered (λ place out. in_copies c.copy_place.result size place (omega (arith, c.copy_place.ensures)) (omega (arith, c.copy_place.ensures, small, c.all_bytes.ensures.size)) out) c.in_err-write.ensures.disk c.in_err-write.ensures.printed c.in_err-write.ensures.time in
+    record { phase = copied; quiet = search rules; calls = search rules }
 
 pub loop-k-preserved : goal.loop-k-preserved
 loop-k-preserved g c =
@@ -39,9 +38,9 @@ loop-k-preserved g c =
     let old = c.args.world.now in
     let k = c.loop-k.k in
     let small : k < 64 = omega arith in
-    let numbered = writes w.clock w.left_since w.image w.pending w.printed old c.loop-k.world c.write_number-in-loop-k.new.world staged_places c.number_place.result 4 c.loop-k.invariant.phase (λ place out. in_list c.number_place.result 4 place (omega (arith, c.number_place.ensures)) (omega (arith, c.number_place.ensures, small)) out) c.in_ok-write_number-2.ensures.disk c.in_ok-write_number-2.ensures.printed c.in_ok-write_number-2.ensures.time in
+    let numbered = writes w old c.loop-k.world c.write_number-in-loop-k.new.world staged_places c.number_place.result 4 c.loop-k.invariant.phase (λ place out. in_list c.number_place.result 4 place (omega (arith, c.number_place.ensures)) (omega (arith, c.number_place.ensures, small)) out) c.in_ok-write_number-2.ensures.write.disk c.in_ok-write_number-2.ensures.write.calls.printed c.in_ok-write_number-2.ensures.write.time in
     let size = length c.all_bytes.result.now in
-    let copied = writes w.clock w.left_since w.image w.pending w.printed old c.write_number-in-loop-k.new.world c.write.new.self staged_places c.copy_place.result size numbered (λ place out. in_copies c.copy_place.result size place (omega (arith, c.copy_place.ensures)) (omega (arith, c.copy_place.ensures, small, c.all_bytes.ensures.size)) out) c.in_ok-write.ensures.disk c.in_ok-write.ensures.printed c.in_ok-write.ensures.time in
+    let copied = writes w old c.write_number-in-loop-k.new.world c.write.new.self staged_places c.copy_place.result size numbered (λ place out. in_copies c.copy_place.result size place (omega (arith, c.copy_place.ensures)) (omega (arith, c.copy_place.ensures, small, c.all_bytes.ensures.size)) out) c.in_ok-write.ensures.disk c.in_ok-write.ensures.printed c.in_ok-write.ensures.time in
     let so_far = c.loop-k.invariant in
     let batch : List (PageNo × Page) = c.args.batch.now in
     let none : PageNo × Page = (record { 0 = 0 }, record { bytes = [] }) in
@@ -49,16 +48,13 @@ loop-k-preserved g c =
     let long : length entry.1.bytes ≡ page_bytes = ap (λ (l : List ℕ). length l) (sym c.all_bytes.ensures.value) ∙ c.all_bytes.ensures.size in
     let more : map whole_page (take (k + 1) batch) ≡ map whole_page (take k batch) ++ whole_page entry ∷ [] = ap (map whole_page) (take_more batch k none (omega arith)) ∙ whole_map (take k batch) (entry ∷ []) in
     let up : k + 1 ≡ suc k = omega arith in
-    let now : IsSome (w.printed old) → w.image c.write.new.self ≡ with_copy (w.image c.loop-k.world) k entry.0.0 entry.1.bytes = λ tells.
-    let t1 = subst IsSome (sym so_far.phase.told) tells in
-    let t2 = subst IsSome (sym c.in_ok-write_number-2.ensures.printed) t1 in
-    let first : w.image c.write_number-in-loop-k.new.world ≡ put (w.image c.loop-k.world) (list_place + 4 * k) (bytes_of 4 entry.0.0) = c.in_ok-write_number-2.ensures.written t1 ∙ ap (λ (n : ℕ). put (w.image c.loop-k.world) n (bytes_of 4 entry.0.0)) c.number_place.ensures in
-    let second : w.image c.write.new.self ≡ put (w.image c.write_number-in-loop-k.new.world) (copies_place + page_bytes * k) entry.1.bytes = c.in_ok-write.ensures.written t2 ∙ (λ i. put (w.image c.write_number-in-loop-k.new.world) (c.copy_place.ensures i) (c.all_bytes.ensures.value i)) in
+    let now : w.tells → w.image c.write.new.self ≡ with_copy (w.image c.loop-k.world) k entry.0.0 entry.1.bytes = λ tells.
+    let first : w.image c.write_number-in-loop-k.new.world ≡ put (w.image c.loop-k.world) (list_place + 4 * k) (bytes_of 4 entry.0.0) = c.in_ok-write_number-2.ensures.written tells ∙ ap (λ (n : ℕ). put (w.image c.loop-k.world) n (bytes_of 4 entry.0.0)) c.number_place.ensures in
+    let second : w.image c.write.new.self ≡ put (w.image c.write_number-in-loop-k.new.world) (copies_place + page_bytes * k) entry.1.bytes = c.in_ok-write.ensures.written tells ∙ (λ i. put (w.image c.write_number-in-loop-k.new.world) (c.copy_place.ensures i) (c.all_bytes.ensures.value i)) in
     second ∙ ap (λ (x : Image). put x (copies_place + page_bytes * k) entry.1.bytes) first in
     record {
       phase = copied;
-      disk = c.in_ok-write.ensures.cause.steady ∙ c.in_ok-write_number-2.ensures.cause.steady ∙ so_far.disk;
-      printer = c.in_ok-write.ensures.printer ∙ c.in_ok-write_number-2.ensures.printer ∙ so_far.printer;
+      calls = search rules;
       count = λ tells. ap copy_count (now tells) ∙ count_kept (w.image c.loop-k.world) (length batch) k entry.0.0 entry.1.bytes small (so_far.count tells);
       listed = λ tells. (λ i. copies_from (now tells i) 0 (up i)) ∙ staged_more (w.image c.loop-k.world) (length batch) k entry.0.0 entry.1.bytes (map whole_page (take k batch)) small c.in_ok-write_number-2.ensures.fits long (so_far.listed tells) ∙ sym more;
       whole = subst AreWhole (sym more) (whole_append (map whole_page (take k batch)) (whole_page entry ∷ []) so_far.whole (refl, long, tt));

@@ -1,4 +1,4 @@
-use Rattle.std.proofs.Common.{◌≡◌, ◌<◌, ◌∙◌, length, arith}
+use Rattle.std.proofs.Common.{◌≡◌, ◌∙◌, length, arith}
 use Rattle.isp_doublewrite.proofs.Numbered.{listed_number}
 use Rattle.isp_doublewrite.proofs.list.read_list.Goals as goal
 

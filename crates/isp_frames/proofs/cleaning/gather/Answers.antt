@@ -1,9 +1,9 @@
-use Rattle.std.proofs.Common.{◌≡◌, ◌+◌, ◌≤◌, ℕ, List, arith, count_by, length, sym, subst}
+use Rattle.std.proofs.Common.{◌≡◌, ◌+◌, ◌≤◌, List, arith, count_by, length, sym, subst}
 use Rattle.isp_frames.specs.Gathered.{IsTaken}
 use Rattle.isp_frames.proofs.Gathering.{none_left, taken_none}
 use Rattle.isp_frames.proofs.KeptLaws.{cleaned_unpinned}
 use Rattle.isp_page.specs.declared.page.Page.{Page}
-use Rattle.isp_page.specs.declared.page.PageNo.{PageNo}
+use Rattle.isp_base.specs.declared.page_no.PageNo.{PageNo}
 use Rattle.isp_pool.specs.Frames.{is_dirty}
 use Rattle.isp_frames.proofs.cleaning.gather.Goals as goal
 
@@ -14,7 +14,7 @@ taking-init c =
     record {
       taken = subst (λ (batch : List (PageNo × Page)). IsTaken s s batch) nothing (taken_none s);
       most = subst (λ (batch : List (PageNo × Page)). length batch ≤ 64) nothing (omega arith);
-      room = subst (λ (n : ℕ). 64 ≤ n) (sym c.clear.ensures.capacity) c.requires.room;
+      room = c.clear.ensures.capacity;
     }
 
 pub returns-in_default-clause-count : goal.returns-in_default-clause-count

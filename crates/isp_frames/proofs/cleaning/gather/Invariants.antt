@@ -1,4 +1,4 @@
-use Rattle.std.proofs.Common.{◌≤◌, ◌-◌, length, vec_capacity}
+use Rattle.std.proofs.Common.{◌≡◌, ◌≤◌, ◌-◌, length, vec_capacity}
 use Rattle.isp_frames.specs.Gathered.{IsTaken}
 use Rattle.isp_frames.proofs.cleaning.gather.Given as goal
 
@@ -6,7 +6,7 @@ abbrev pub invariant-taking : goal.invariant-taking
 invariant-taking l = record {
   taken : IsTaken l.fn.pool l.pool l.batch.items;
   most : length l.batch.items ≤ 64;
-  room : 64 ≤ vec_capacity l.batch;
+  room : vec_capacity l.batch ≡ vec_capacity l.fn.batch;
 }
 
 abbrev pub decreases-taking : goal.decreases-taking

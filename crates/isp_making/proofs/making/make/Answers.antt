@@ -1,5 +1,4 @@
-use Rattle.std.proofs.Common.{◌≡◌, [], refl, sym, ◌∙◌, ap, subst}
-use Rattle.std.specs.Prelude.{IsSome}
+use Rattle.std.proofs.Common.{◌≡◌, [], refl, sym, ◌∙◌, ap}
 use Rattle.isp_disk.specs.Moments.{Image, Region, either, no_place}
 use Rattle.isp_format.specs.Control.{made_gate}
 use Rattle.isp_format.proofs.Offsets.{put_first}
@@ -16,15 +15,13 @@ returns-in_err-write_contents-clause-stops g c = λ tells.
     let fanout = c.args.fanout in
     let region : Region = either (w.pending old) made_place in
     let s1 = c.sync.new.self in
-    let l1 = syncs w.clock w.left_since w.image w.pending w.printed pages fanout region old s1 (λ left told since. g.met.W.World.only_now old left told since) (λ place out. not_first (w.pending old place) (made_place place) out) c.in_ok-sync.ensures.time in
+    let l1 = syncs w pages fanout region old s1 (λ left told since. g.met.W.World.only_now old left told since) (λ place out. not_first (w.pending old place) (made_place place) out) c.in_ok-sync.ensures.time in
     let told1 = c.in_ok-sync.ensures.printed in
-    let t1 = subst IsSome (sym told1) tells in
     let s2 = c.close_gate.new.world in
-    let l2 = closes w.clock w.left_since w.image w.pending w.printed pages fanout region old s1 s2 made_place l1 (λ place out. not_second (w.pending old place) (made_place place) out) c.in_ok-sync.ensures.disk.same told1 c.in_ok-close_gate.ensures.phase in
-    let told2 = c.in_ok-close_gate.ensures.phase.told ∙ told1 in
-    let t2 = subst IsSome (sym told2) tells in
+    let l2 = closes w pages fanout region old s1 s2 made_place l1 (λ place out. not_second (w.pending old place) (made_place place) out) c.in_ok-sync.ensures.disk.same told1 c.in_ok-close_gate.ensures.wrote.phase in
+    let told2 = c.in_ok-close_gate.ensures.wrote.phase.told ∙ told1 in
     let s3 = c.write_contents.new.world in
-    let l3 = fills w.clock w.left_since w.image w.pending w.printed pages fanout region old s2 s3 l2 (c.in_ok-close_gate.ensures.closed t1) told2 c.in_err-write_contents.ensures.phase in
+    let l3 = fills w pages fanout region old s2 s3 l2 (c.in_ok-close_gate.ensures.closed tells) told2 c.in_err-write_contents.ensures.wrote.phase in
     l3
 
 pub returns-in_err-set_gate-clause-stops : goal.returns-in_err-set_gate-clause-stops
@@ -35,19 +32,17 @@ returns-in_err-set_gate-clause-stops g c = λ tells.
     let fanout = c.args.fanout in
     let region : Region = either (w.pending old) made_place in
     let s1 = c.sync.new.self in
-    let l1 = syncs w.clock w.left_since w.image w.pending w.printed pages fanout region old s1 (λ left told since. g.met.W.World.only_now old left told since) (λ place out. not_first (w.pending old place) (made_place place) out) c.in_ok-sync.ensures.time in
+    let l1 = syncs w pages fanout region old s1 (λ left told since. g.met.W.World.only_now old left told since) (λ place out. not_first (w.pending old place) (made_place place) out) c.in_ok-sync.ensures.time in
     let told1 = c.in_ok-sync.ensures.printed in
-    let t1 = subst IsSome (sym told1) tells in
     let s2 = c.close_gate.new.world in
-    let l2 = closes w.clock w.left_since w.image w.pending w.printed pages fanout region old s1 s2 made_place l1 (λ place out. not_second (w.pending old place) (made_place place) out) c.in_ok-sync.ensures.disk.same told1 c.in_ok-close_gate.ensures.phase in
-    let told2 = c.in_ok-close_gate.ensures.phase.told ∙ told1 in
-    let t2 = subst IsSome (sym told2) tells in
+    let l2 = closes w pages fanout region old s1 s2 made_place l1 (λ place out. not_second (w.pending old place) (made_place place) out) c.in_ok-sync.ensures.disk.same told1 c.in_ok-close_gate.ensures.wrote.phase in
+    let told2 = c.in_ok-close_gate.ensures.wrote.phase.told ∙ told1 in
     let s3 = c.write_contents.new.world in
-    let l3 = fills w.clock w.left_since w.image w.pending w.printed pages fanout region old s2 s3 l2 (c.in_ok-close_gate.ensures.closed t1) told2 c.in_ok-write_contents.ensures.phase in
-    let told3 = c.in_ok-write_contents.ensures.phase.told ∙ told2 in
-    let written : IsWritten pages fanout (w.image s3) = c.in_ok-write_contents.ensures.written t2 in
+    let l3 = fills w pages fanout region old s2 s3 l2 (c.in_ok-close_gate.ensures.closed tells) told2 c.in_ok-write_contents.ensures.wrote.phase in
+    let told3 = c.in_ok-write_contents.ensures.wrote.phase.told ∙ told2 in
+    let written : IsWritten pages fanout (w.image s3) = c.in_ok-write_contents.ensures.written tells in
     let s4 = c.set_gate.new.world in
-    let l4 = opens w.clock w.left_since w.image w.pending w.printed pages fanout region old s3 s4 l3 c.requires.pages c.requires.fanout written told3 c.in_err-set_gate.ensures.phase in
+    let l4 = opens w pages fanout region old s3 s4 l3 c.requires.pages c.requires.fanout written told3 c.in_err-set_gate.ensures.wrote.phase in
     l4
 
 pub returns-clause-stops : goal.returns-clause-stops
@@ -58,19 +53,17 @@ returns-clause-stops g c = λ tells.
     let fanout = c.args.fanout in
     let region : Region = either (w.pending old) made_place in
     let s1 = c.sync.new.self in
-    let l1 = syncs w.clock w.left_since w.image w.pending w.printed pages fanout region old s1 (λ left told since. g.met.W.World.only_now old left told since) (λ place out. not_first (w.pending old place) (made_place place) out) c.in_ok-sync.ensures.time in
+    let l1 = syncs w pages fanout region old s1 (λ left told since. g.met.W.World.only_now old left told since) (λ place out. not_first (w.pending old place) (made_place place) out) c.in_ok-sync.ensures.time in
     let told1 = c.in_ok-sync.ensures.printed in
-    let t1 = subst IsSome (sym told1) tells in
     let s2 = c.close_gate.new.world in
-    let l2 = closes w.clock w.left_since w.image w.pending w.printed pages fanout region old s1 s2 made_place l1 (λ place out. not_second (w.pending old place) (made_place place) out) c.in_ok-sync.ensures.disk.same told1 c.in_ok-close_gate.ensures.phase in
-    let told2 = c.in_ok-close_gate.ensures.phase.told ∙ told1 in
-    let t2 = subst IsSome (sym told2) tells in
+    let l2 = closes w pages fanout region old s1 s2 made_place l1 (λ place out. not_second (w.pending old place) (made_place place) out) c.in_ok-sync.ensures.disk.same told1 c.in_ok-close_gate.ensures.wrote.phase in
+    let told2 = c.in_ok-close_gate.ensures.wrote.phase.told ∙ told1 in
     let s3 = c.write_contents.new.world in
-    let l3 = fills w.clock w.left_since w.image w.pending w.printed pages fanout region old s2 s3 l2 (c.in_ok-close_gate.ensures.closed t1) told2 c.in_ok-write_contents.ensures.phase in
-    let told3 = c.in_ok-write_contents.ensures.phase.told ∙ told2 in
-    let written : IsWritten pages fanout (w.image s3) = c.in_ok-write_contents.ensures.written t2 in
+    let l3 = fills w pages fanout region old s2 s3 l2 (c.in_ok-close_gate.ensures.closed tells) told2 c.in_ok-write_contents.ensures.wrote.phase in
+    let told3 = c.in_ok-write_contents.ensures.wrote.phase.told ∙ told2 in
+    let written : IsWritten pages fanout (w.image s3) = c.in_ok-write_contents.ensures.written tells in
     let s4 = c.set_gate.new.world in
-    let l4 = opens w.clock w.left_since w.image w.pending w.printed pages fanout region old s3 s4 l3 c.requires.pages c.requires.fanout written told3 c.in_ok-set_gate.ensures.phase in
+    let l4 = opens w pages fanout region old s3 s4 l3 c.requires.pages c.requires.fanout written told3 c.in_ok-set_gate.ensures.wrote.phase in
     l4
 
 pub returns-in_err-sync-clause-closed : goal.returns-in_err-sync-clause-closed
@@ -81,7 +74,7 @@ returns-in_err-sync-clause-closed g c = λ tells shut_before.
     let fanout = c.args.fanout in
     let region : Region = w.pending old in
     let s1 = c.sync.new.self in
-    let l1 = syncs w.clock w.left_since w.image w.pending w.printed pages fanout region old s1 (λ left told since. g.met.W.World.only_now old left told since) (λ place out. out) c.in_err-sync.ensures.time in
+    let l1 = syncs w pages fanout region old s1 (λ left told since. g.met.W.World.only_now old left told since) (λ place out. out) c.in_err-sync.ensures.time in
     l1
 
 pub returns-in_err-close_gate-clause-closed : goal.returns-in_err-close_gate-clause-closed
@@ -92,11 +85,10 @@ returns-in_err-close_gate-clause-closed g c = λ tells shut_before.
     let fanout = c.args.fanout in
     let region : Region = w.pending old in
     let s1 = c.sync.new.self in
-    let l1 = syncs w.clock w.left_since w.image w.pending w.printed pages fanout region old s1 (λ left told since. g.met.W.World.only_now old left told since) (λ place out. out) c.in_ok-sync.ensures.time in
+    let l1 = syncs w pages fanout region old s1 (λ left told since. g.met.W.World.only_now old left told since) (λ place out. out) c.in_ok-sync.ensures.time in
     let told1 = c.in_ok-sync.ensures.printed in
-    let t1 = subst IsSome (sym told1) tells in
     let s2 = c.close_gate.new.world in
-    let l2 = closes w.clock w.left_since w.image w.pending w.printed pages fanout region old s1 s2 no_place l1 (λ place out. refl) c.in_ok-sync.ensures.disk.same told1 (c.in_err-close_gate.ensures.untouched t1 (λ is. shut_before (ap (λ (x : Image). x made_gate) (sym c.in_ok-sync.ensures.disk.same) ∙ is))) in
+    let l2 = closes w pages fanout region old s1 s2 no_place l1 (λ place out. refl) c.in_ok-sync.ensures.disk.same told1 (c.in_err-close_gate.ensures.untouched tells (λ is. shut_before (ap (λ (x : Image). x made_gate) (sym c.in_ok-sync.ensures.disk.same) ∙ is))) in
     l2
 
 pub returns-in_err-write_contents-clause-closed : goal.returns-in_err-write_contents-clause-closed
@@ -107,15 +99,13 @@ returns-in_err-write_contents-clause-closed g c = λ tells shut_before.
     let fanout = c.args.fanout in
     let region : Region = w.pending old in
     let s1 = c.sync.new.self in
-    let l1 = syncs w.clock w.left_since w.image w.pending w.printed pages fanout region old s1 (λ left told since. g.met.W.World.only_now old left told since) (λ place out. out) c.in_ok-sync.ensures.time in
+    let l1 = syncs w pages fanout region old s1 (λ left told since. g.met.W.World.only_now old left told since) (λ place out. out) c.in_ok-sync.ensures.time in
     let told1 = c.in_ok-sync.ensures.printed in
-    let t1 = subst IsSome (sym told1) tells in
     let s2 = c.close_gate.new.world in
-    let l2 = closes w.clock w.left_since w.image w.pending w.printed pages fanout region old s1 s2 no_place l1 (λ place out. refl) c.in_ok-sync.ensures.disk.same told1 (c.in_ok-close_gate.ensures.untouched t1 (λ is. shut_before (ap (λ (x : Image). x made_gate) (sym c.in_ok-sync.ensures.disk.same) ∙ is))) in
-    let told2 = c.in_ok-close_gate.ensures.phase.told ∙ told1 in
-    let t2 = subst IsSome (sym told2) tells in
+    let l2 = closes w pages fanout region old s1 s2 no_place l1 (λ place out. refl) c.in_ok-sync.ensures.disk.same told1 (c.in_ok-close_gate.ensures.untouched tells (λ is. shut_before (ap (λ (x : Image). x made_gate) (sym c.in_ok-sync.ensures.disk.same) ∙ is))) in
+    let told2 = c.in_ok-close_gate.ensures.wrote.phase.told ∙ told1 in
     let s3 = c.write_contents.new.world in
-    let l3 = fills w.clock w.left_since w.image w.pending w.printed pages fanout region old s2 s3 l2 (c.in_ok-close_gate.ensures.closed t1) told2 c.in_err-write_contents.ensures.phase in
+    let l3 = fills w pages fanout region old s2 s3 l2 (c.in_ok-close_gate.ensures.closed tells) told2 c.in_err-write_contents.ensures.wrote.phase in
     l3
 
 pub returns-in_err-set_gate-clause-closed : goal.returns-in_err-set_gate-clause-closed
@@ -126,19 +116,17 @@ returns-in_err-set_gate-clause-closed g c = λ tells shut_before.
     let fanout = c.args.fanout in
     let region : Region = w.pending old in
     let s1 = c.sync.new.self in
-    let l1 = syncs w.clock w.left_since w.image w.pending w.printed pages fanout region old s1 (λ left told since. g.met.W.World.only_now old left told since) (λ place out. out) c.in_ok-sync.ensures.time in
+    let l1 = syncs w pages fanout region old s1 (λ left told since. g.met.W.World.only_now old left told since) (λ place out. out) c.in_ok-sync.ensures.time in
     let told1 = c.in_ok-sync.ensures.printed in
-    let t1 = subst IsSome (sym told1) tells in
     let s2 = c.close_gate.new.world in
-    let l2 = closes w.clock w.left_since w.image w.pending w.printed pages fanout region old s1 s2 no_place l1 (λ place out. refl) c.in_ok-sync.ensures.disk.same told1 (c.in_ok-close_gate.ensures.untouched t1 (λ is. shut_before (ap (λ (x : Image). x made_gate) (sym c.in_ok-sync.ensures.disk.same) ∙ is))) in
-    let told2 = c.in_ok-close_gate.ensures.phase.told ∙ told1 in
-    let t2 = subst IsSome (sym told2) tells in
+    let l2 = closes w pages fanout region old s1 s2 no_place l1 (λ place out. refl) c.in_ok-sync.ensures.disk.same told1 (c.in_ok-close_gate.ensures.untouched tells (λ is. shut_before (ap (λ (x : Image). x made_gate) (sym c.in_ok-sync.ensures.disk.same) ∙ is))) in
+    let told2 = c.in_ok-close_gate.ensures.wrote.phase.told ∙ told1 in
     let s3 = c.write_contents.new.world in
-    let l3 = fills w.clock w.left_since w.image w.pending w.printed pages fanout region old s2 s3 l2 (c.in_ok-close_gate.ensures.closed t1) told2 c.in_ok-write_contents.ensures.phase in
-    let told3 = c.in_ok-write_contents.ensures.phase.told ∙ told2 in
-    let written : IsWritten pages fanout (w.image s3) = c.in_ok-write_contents.ensures.written t2 in
+    let l3 = fills w pages fanout region old s2 s3 l2 (c.in_ok-close_gate.ensures.closed tells) told2 c.in_ok-write_contents.ensures.wrote.phase in
+    let told3 = c.in_ok-write_contents.ensures.wrote.phase.told ∙ told2 in
+    let written : IsWritten pages fanout (w.image s3) = c.in_ok-write_contents.ensures.written tells in
     let s4 = c.set_gate.new.world in
-    let l4 = opens w.clock w.left_since w.image w.pending w.printed pages fanout region old s3 s4 l3 c.requires.pages c.requires.fanout written told3 c.in_err-set_gate.ensures.phase in
+    let l4 = opens w pages fanout region old s3 s4 l3 c.requires.pages c.requires.fanout written told3 c.in_err-set_gate.ensures.wrote.phase in
     l4
 
 pub returns-clause-closed : goal.returns-clause-closed
@@ -149,19 +137,17 @@ returns-clause-closed g c = λ tells shut_before.
     let fanout = c.args.fanout in
     let region : Region = w.pending old in
     let s1 = c.sync.new.self in
-    let l1 = syncs w.clock w.left_since w.image w.pending w.printed pages fanout region old s1 (λ left told since. g.met.W.World.only_now old left told since) (λ place out. out) c.in_ok-sync.ensures.time in
+    let l1 = syncs w pages fanout region old s1 (λ left told since. g.met.W.World.only_now old left told since) (λ place out. out) c.in_ok-sync.ensures.time in
     let told1 = c.in_ok-sync.ensures.printed in
-    let t1 = subst IsSome (sym told1) tells in
     let s2 = c.close_gate.new.world in
-    let l2 = closes w.clock w.left_since w.image w.pending w.printed pages fanout region old s1 s2 no_place l1 (λ place out. refl) c.in_ok-sync.ensures.disk.same told1 (c.in_ok-close_gate.ensures.untouched t1 (λ is. shut_before (ap (λ (x : Image). x made_gate) (sym c.in_ok-sync.ensures.disk.same) ∙ is))) in
-    let told2 = c.in_ok-close_gate.ensures.phase.told ∙ told1 in
-    let t2 = subst IsSome (sym told2) tells in
+    let l2 = closes w pages fanout region old s1 s2 no_place l1 (λ place out. refl) c.in_ok-sync.ensures.disk.same told1 (c.in_ok-close_gate.ensures.untouched tells (λ is. shut_before (ap (λ (x : Image). x made_gate) (sym c.in_ok-sync.ensures.disk.same) ∙ is))) in
+    let told2 = c.in_ok-close_gate.ensures.wrote.phase.told ∙ told1 in
     let s3 = c.write_contents.new.world in
-    let l3 = fills w.clock w.left_since w.image w.pending w.printed pages fanout region old s2 s3 l2 (c.in_ok-close_gate.ensures.closed t1) told2 c.in_ok-write_contents.ensures.phase in
-    let told3 = c.in_ok-write_contents.ensures.phase.told ∙ told2 in
-    let written : IsWritten pages fanout (w.image s3) = c.in_ok-write_contents.ensures.written t2 in
+    let l3 = fills w pages fanout region old s2 s3 l2 (c.in_ok-close_gate.ensures.closed tells) told2 c.in_ok-write_contents.ensures.wrote.phase in
+    let told3 = c.in_ok-write_contents.ensures.wrote.phase.told ∙ told2 in
+    let written : IsWritten pages fanout (w.image s3) = c.in_ok-write_contents.ensures.written tells in
     let s4 = c.set_gate.new.world in
-    let l4 = opens w.clock w.left_since w.image w.pending w.printed pages fanout region old s3 s4 l3 c.requires.pages c.requires.fanout written told3 c.in_ok-set_gate.ensures.phase in
+    let l4 = opens w pages fanout region old s3 s4 l3 c.requires.pages c.requires.fanout written told3 c.in_ok-set_gate.ensures.wrote.phase in
     l4
 
 pub returns-clause-made : goal.returns-clause-made
@@ -171,13 +157,10 @@ returns-clause-made g c = λ tells.
     let pages = c.args.pages in
     let fanout = c.args.fanout in
     let told1 = c.in_ok-sync.ensures.printed in
-    let t1 = subst IsSome (sym told1) tells in
-    let told2 = c.in_ok-close_gate.ensures.phase.told ∙ told1 in
-    let t2 = subst IsSome (sym told2) tells in
+    let told2 = c.in_ok-close_gate.ensures.wrote.phase.told ∙ told1 in
     let s3 = c.write_contents.new.world in
-    let told3 = c.in_ok-write_contents.ensures.phase.told ∙ told2 in
-    let t3 = subst IsSome (sym told3) tells in
-    let written : IsWritten pages fanout (w.image s3) = c.in_ok-write_contents.ensures.written t2 in
+    let told3 = c.in_ok-write_contents.ensures.wrote.phase.told ∙ told2 in
+    let written : IsWritten pages fanout (w.image s3) = c.in_ok-write_contents.ensures.written tells in
     let s4 = c.set_gate.new.world in
-    let gate : w.image s4 made_gate ≡ 1 = ap (λ (x : Image). x made_gate) (c.in_ok-set_gate.ensures.written t3) ∙ put_first (w.image s3) made_gate 1 [] in
-    made_by pages fanout (w.image s3) (w.image s4) c.requires.pages c.requires.fanout written c.in_ok-set_gate.ensures.phase.agrees gate
+    let gate : w.image s4 made_gate ≡ 1 = ap (λ (x : Image). x made_gate) (c.in_ok-set_gate.ensures.written tells) ∙ put_first (w.image s3) made_gate 1 [] in
+    made_by pages fanout (w.image s3) (w.image s4) c.requires.pages c.requires.fanout written c.in_ok-set_gate.ensures.wrote.phase.agrees gate

@@ -1,4 +1,4 @@
-use Rattle.std.proofs.Common.{◌≡◌, ◌+◌, ℕ, List, Option, IsSome, sym, ◌∙◌, ap, subst, arith}
+use Rattle.std.proofs.Common.{◌≡◌, ◌+◌, sym, ◌∙◌, ap, arith}
 use Rattle.isp_disk.specs.Moments.{Image, slice}
 use Rattle.isp_format.specs.Log.{log_of}
 use Rattle.isp_format.specs.Numbers.{bytes_of}
@@ -18,9 +18,8 @@ pub returns-then-size-end-clause-leads : goal.returns-then-size-end-clause-leads
 returns-then-size-end-clause-leads g c tells pages few ranges is =
     let w = g.W.World in
     let end = c.args.end in
-    let tells_gate : IsSome (w.printed c.read_gate.new.world) = subst (λ (p : Option (List ℕ)). IsSome p) (sym c.read_gate.ensures.reads.told) tells in
     let stands : slice (log_of (w.image c.args.world.now)) (end + 1) 4 ≡ bytes_of 4 c.from-size.result =
-    ap (λ (i : Image). slice (log_of i) (end + 1) 4) (sym c.read_gate.ensures.reads.same) ∙ c.in_ok-read_size.ensures.size tells_gate ∙ ap (bytes_of 4) (sym c.from-size.ensures) in
+    ap (λ (i : Image). slice (log_of i) (end + 1) 4) (sym c.read_gate.ensures.reads.same) ∙ c.in_ok-read_size.ensures.size tells ∙ ap (bytes_of 4) (sym c.from-size.ensures) in
     let small = c.in_ok-read_size.ensures.few in
     let from = c.from-size.ensures in
     let long = c.if-size-end.true in
@@ -30,9 +29,8 @@ pub returns-clause-leads : goal.returns-clause-leads
 returns-clause-leads g c tells pages few ranges is =
     let w = g.W.World in
     let end = c.args.end in
-    let tells_gate : IsSome (w.printed c.read_gate.new.world) = subst (λ (p : Option (List ℕ)). IsSome p) (sym c.read_gate.ensures.reads.told) tells in
     let stands : slice (log_of (w.image c.args.world.now)) (end + 1) 4 ≡ bytes_of 4 c.from-size.result =
-    ap (λ (i : Image). slice (log_of i) (end + 1) 4) (sym c.read_gate.ensures.reads.same) ∙ c.in_ok-read_size.ensures.size tells_gate ∙ ap (bytes_of 4) (sym c.from-size.ensures) in
+    ap (λ (i : Image). slice (log_of i) (end + 1) 4) (sym c.read_gate.ensures.reads.same) ∙ c.in_ok-read_size.ensures.size tells ∙ ap (bytes_of 4) (sym c.from-size.ensures) in
     let small = c.in_ok-read_size.ensures.few in
     let from = c.from-size.ensures in
     opens_at pages (log_of (w.image c.args.world.now)) end c.from-size.result ranges (c.in_ok-read_gate.ensures.gate tells ∙ c.if-branch-ne1.false) (omega (arith, small, from)) stands is

@@ -1,10 +1,10 @@
-use Rattle.std.proofs.Common.{◌≡◌, ℕ, List, Option, IsSome, sym, ◌∙◌, ap, subst, arith}
+use Rattle.std.proofs.Common.{◌≡◌, ℕ, Option, sym, ap, subst, arith}
 use Rattle.isp_disk.specs.Moments.{Image}
+use Rattle.isp_disk.proofs.Phases.{reads_more}
 use Rattle.isp_format.specs.Log.{log_of}
 use Rattle.isp_redo.specs.Places.{GoesOn, IsAt, LeadsOn, place_of}
 use Rattle.isp_redo.specs.declared.ranges.Place.{Place}
 use Rattle.isp_redo.proofs.Ahead.{at_forward}
-use Rattle.isp_redo.proofs.Chained.{chain_reads}
 use Rattle.isp_redo.proofs.ranges.read_range.Goals as goal
 
 pub returns-then-place-clause-found : goal.returns-then-place-clause-found
@@ -20,20 +20,18 @@ seeking-preserved g c =
     let mid = c.seeking.world in
     let inv = c.seeking.invariant in
     let here : Place = record { at = c.seeking.place.at; left = 0; end = c.seeking.place.end } in
-    let goes = subst (λ (o : Option Place). GoesOn here o) c.in-Some.is c.in_ok-next.ensures.onward in (
-      chain_reads w.clock w.left_since w.image w.pending w.printed w.print_faults old mid c.onward.new.world inv.0 c.onward.ensures.reads,
-      c.in_ok-next.ensures.cause.steady ∙ inv.1,
-      goes.1,
-      goes.2,
-      goes.3,
-      omega (arith, inv.5, goes.0),
-      λ tells pages few ranges is.
-          let tells_mid : IsSome (w.printed mid) = subst (λ (p : Option (List ℕ)). IsSome p) (sym inv.0.told) tells in
-          let leads = subst (λ (o : Option Place). LeadsOn pages (log_of (w.image mid)) here o) c.in-Some.is (c.in_ok-next.ensures.leads tells_mid pages few) in
+    let goes = subst (λ (o : Option Place). GoesOn here o) c.in-Some.is c.in_ok-next.ensures.onward in record {
+      reads = reads_more w old mid c.onward.new.world 0 _ 0 inv.reads c.in_ok-next.ensures.reads;
+      inside = goes.1;
+      end = goes.2;
+      few = goes.3;
+      onward = omega (arith, inv.onward, goes.0);
+      ahead = λ tells pages few ranges is.
+          let leads = subst (λ (o : Option Place). LeadsOn pages (log_of (w.image mid)) here o) c.in-Some.is (c.in_ok-next.ensures.leads tells pages few) in
           let none : c.seeking.place.left ≡ 0 = c.seeking-test.true in
-          let at : IsAt pages (log_of (w.image old)) here ranges = subst (λ (n : ℕ). IsAt pages (log_of (w.image old)) (record { at = c.seeking.place.at; left = n; end = c.seeking.place.end }) ranges) none (inv.6 tells pages few ranges is) in
-          subst (λ (i : Image). IsAt pages (log_of i) c.in-Some.next ranges) inv.0.same (leads ranges (subst (λ (i : Image). IsAt pages (log_of i) here ranges) (sym inv.0.same) at)),
-    )
+          let at : IsAt pages (log_of (w.image old)) here ranges = subst (λ (n : ℕ). IsAt pages (log_of (w.image old)) (record { at = c.seeking.place.at; left = n; end = c.seeking.place.end }) ranges) none (inv.ahead tells pages few ranges is) in
+          subst (λ (i : Image). IsAt pages (log_of i) c.in-Some.next ranges) inv.reads.same (leads ranges (subst (λ (i : Image). IsAt pages (log_of i) here ranges) (sym inv.reads.same) at));
+    }
 
 pub returns-in-None-clause-found : goal.returns-in-None-clause-found
 returns-in-None-clause-found g c tells pages few ranges is =
@@ -42,8 +40,7 @@ returns-in-None-clause-found g c tells pages few ranges is =
     let mid = c.seeking.world in
     let inv = c.seeking.invariant in
     let here : Place = record { at = c.seeking.place.at; left = 0; end = c.seeking.place.end } in
-    let tells_mid : IsSome (w.printed mid) = subst (λ (p : Option (List ℕ)). IsSome p) (sym inv.0.told) tells in
-    let leads = subst (λ (o : Option Place). LeadsOn pages (log_of (w.image mid)) here o) c.in-None.is (c.in_ok-next.ensures.leads tells_mid pages few) in
+    let leads = subst (λ (o : Option Place). LeadsOn pages (log_of (w.image mid)) here o) c.in-None.is (c.in_ok-next.ensures.leads tells pages few) in
     let none : c.seeking.place.left ≡ 0 = c.seeking-test.true in
-    let at : IsAt pages (log_of (w.image old)) here ranges = subst (λ (n : ℕ). IsAt pages (log_of (w.image old)) (record { at = c.seeking.place.at; left = n; end = c.seeking.place.end }) ranges) none (inv.6 tells pages few ranges is) in
-    leads ranges (subst (λ (i : Image). IsAt pages (log_of i) here ranges) (sym inv.0.same) at)
+    let at : IsAt pages (log_of (w.image old)) here ranges = subst (λ (n : ℕ). IsAt pages (log_of (w.image old)) (record { at = c.seeking.place.at; left = n; end = c.seeking.place.end }) ranges) none (inv.ahead tells pages few ranges is) in
+    leads ranges (subst (λ (i : Image). IsAt pages (log_of i) here ranges) (sym inv.reads.same) at)

@@ -1,4 +1,4 @@
-use Rattle.std.proofs.Common.{◌≡◌, ◌+◌, ◌-◌, ◌≤◌, ◌&&◌, nat_le, nat_lt, false, ℕ, List, length, Option, IsSome, sym, ◌∙◌, ap, subst, arith}
+use Rattle.std.proofs.Common.{◌≡◌, ◌+◌, ◌-◌, ◌≤◌, ◌&&◌, nat_le, nat_lt, false, ℕ, length, sym, ◌∙◌, ap, subst, arith}
 use Rattle.std.proofs.lemmas.Bool.Decides.{nat_tests}
 use Rattle.isp_disk.specs.Moments.{Image, slice}
 use Rattle.isp_format.specs.Log.{log_of}
@@ -47,8 +47,7 @@ returns-clause-found g c tells pages few ranges is =
     let fits = c.in_ok-header.ensures.few in
     let taken = takes_at pages log c.args.place ranges c.requires.left.0 is in
     let same = header_is pages log c.args.place.at header.page header.at header.len taken.range taken.next few fits.0 fits.1 fits.2 (c.in_ok-header.ensures.header tells) taken.is in
-    let tells_header : IsSome (w.printed c.read_header.new.world) = subst (λ (p : Option (List ℕ)). IsSome p) (sym c.read_header.ensures.reads.told) tells in
-    let bytes = c.in_ok-fill.ensures.bytes tells_header ∙ ap (λ (i : Image). slice (log_of i) (c.args.place.at + 8) header.len) c.read_header.ensures.reads.same ∙ ap (slice log (c.args.place.at + 8)) same.2 ∙ taken.is.stands in
+    let bytes = c.in_ok-fill.ensures.bytes tells ∙ ap (λ (i : Image). slice (log_of i) (c.args.place.at + 8) header.len) c.read_header.ensures.reads.same ∙ ap (slice log (c.args.place.at + 8)) same.2 ∙ taken.is.stands in
     let from = c.from-len.ensures in
     let some = c.requires.left.0 in
     let next_is : taken.next ≡ c.args.place.at + 8 + c.from-len.result = omega (arith, taken.is.behind, same.2, from) in

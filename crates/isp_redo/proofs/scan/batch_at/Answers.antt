@@ -1,4 +1,4 @@
-use Rattle.std.proofs.Common.{◌≡◌, ◌+◌, ℕ, List, Option, IsSome, sym, ◌∙◌, ap, subst, arith}
+use Rattle.std.proofs.Common.{◌≡◌, ◌+◌, ℕ, sym, ◌∙◌, ap, subst, arith, Option}
 use Rattle.isp_disk.specs.Moments.{Image, slice}
 use Rattle.isp_format.specs.Log.{IsBatch, log_of}
 use Rattle.isp_format.specs.Numbers.{bytes_of}
@@ -14,11 +14,9 @@ returns-in-Some-clause-found g c tells =
     let size = c.from-size.result in
     let gate : log_of (w.image old) at ≡ 1 = c.in_ok-read_gate.ensures.gate tells ∙ c.if-branch-ne1.false in
     let same = c.read_size.ensures.reads.same ∙ c.read_gate.ensures.reads.same in
-    let tells_gate : IsSome (w.printed c.read_gate.new.world) = subst (λ (p : Option (List ℕ)). IsSome p) (sym c.read_gate.ensures.reads.told) tells in
-    let tells_size : IsSome (w.printed c.read_size.new.world) = subst (λ (p : Option (List ℕ)). IsSome p) (sym c.read_size.ensures.reads.told) tells_gate in
     let stands : slice (log_of (w.image old)) (at + 1) 4 ≡ bytes_of 4 size =
-    ap (λ (i : Image). slice (log_of i) (at + 1) 4) (sym c.read_gate.ensures.reads.same) ∙ c.in_ok-read_size.ensures.size tells_gate ∙ ap (bytes_of 4) (sym c.from-size.ensures) in
-    let body = subst (λ (o : Option ℕ). FindsBody c.args.pages (log_of (w.image c.read_size.new.world)) (at + 5) (at + 5 + size) o) c.in-Some.is (c.in_ok-next.ensures.found tells_size) in
+    ap (λ (i : Image). slice (log_of i) (at + 1) 4) (sym c.read_gate.ensures.reads.same) ∙ c.in_ok-read_size.ensures.size tells ∙ ap (bytes_of 4) (sym c.from-size.ensures) in
+    let body = subst (λ (o : Option ℕ). FindsBody c.args.pages (log_of (w.image c.read_size.new.world)) (at + 5) (at + 5 + size) o) c.in-Some.is (c.in_ok-next.ensures.found tells) in
     let room = c.if-at-lt6.false in
     let small = c.if-size-at.false in
     let are = subst (λ (i : Image). AreTransactionsAt c.args.pages (log_of i) (at + 5) body.0 (at + 5 + size)) same body.2 in
@@ -33,11 +31,9 @@ returns-in-None-clause-found g c tells =
     let size = c.from-size.result in
     let gate : log_of (w.image old) at ≡ 1 = c.in_ok-read_gate.ensures.gate tells ∙ c.if-branch-ne1.false in
     let same = c.read_size.ensures.reads.same ∙ c.read_gate.ensures.reads.same in
-    let tells_gate : IsSome (w.printed c.read_gate.new.world) = subst (λ (p : Option (List ℕ)). IsSome p) (sym c.read_gate.ensures.reads.told) tells in
-    let tells_size : IsSome (w.printed c.read_size.new.world) = subst (λ (p : Option (List ℕ)). IsSome p) (sym c.read_size.ensures.reads.told) tells_gate in
     let stands : slice (log_of (w.image old)) (at + 1) 4 ≡ bytes_of 4 size =
-    ap (λ (i : Image). slice (log_of i) (at + 1) 4) (sym c.read_gate.ensures.reads.same) ∙ c.in_ok-read_size.ensures.size tells_gate ∙ ap (bytes_of 4) (sym c.from-size.ensures) in
-    let body = subst (λ (o : Option ℕ). FindsBody c.args.pages (log_of (w.image c.read_size.new.world)) (at + 5) (at + 5 + size) o) c.in-None.is (c.in_ok-next.ensures.found tells_size) in
+    ap (λ (i : Image). slice (log_of i) (at + 1) 4) (sym c.read_gate.ensures.reads.same) ∙ c.in_ok-read_size.ensures.size tells ∙ ap (bytes_of 4) (sym c.from-size.ensures) in
+    let body = subst (λ (o : Option ℕ). FindsBody c.args.pages (log_of (w.image c.read_size.new.world)) (at + 5) (at + 5 + size) o) c.in-None.is (c.in_ok-next.ensures.found tells) in
     let small = c.if-size-at.false in (
       gate,
       λ batch next is.

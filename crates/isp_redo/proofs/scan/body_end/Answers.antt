@@ -1,8 +1,8 @@
-use Rattle.std.proofs.Common.{◌++◌, [], ◌∷◌, ℕ, List, Option, IsSome, sym, ◌∙◌, subst, arith}
+use Rattle.std.proofs.Common.{◌++◌, [], ◌∷◌, ℕ, sym, subst, arith, Option}
 use Rattle.isp_disk.specs.Moments.{Image}
+use Rattle.isp_disk.proofs.Phases.{reads_more}
 use Rattle.isp_format.specs.Log.{log_of}
 use Rattle.isp_redo.specs.Reading.{FindsTransaction, IsOnward, IsTransactionAt}
-use Rattle.isp_redo.proofs.Chained.{chain_reads}
 use Rattle.isp_redo.proofs.Positions.{transaction_forward, transactions_forward, transactions_on, transactions_rest}
 use Rattle.isp_redo.proofs.scan.body_end.Goals as goal
 
@@ -19,17 +19,15 @@ transactions-preserved g c =
     let old = c.args.world.now in
     let mid = c.transactions.world in
     let inv = c.transactions.invariant in
-    let onward = subst (λ (o : Option ℕ). IsOnward c.transactions.place c.args.end o) c.in-Some.is c.in_ok-next.ensures.onward in (
-      chain_reads w.clock w.left_since w.image w.pending w.printed w.print_faults old mid c.transaction_end.new.world inv.0 c.transaction_end.ensures.reads,
-      c.in_ok-next.ensures.cause.steady ∙ inv.1,
-      onward.1,
-      λ tells.
-          let so_far = inv.3 tells in
-          let tells_mid : IsSome (w.printed mid) = subst (λ (p : Option (List ℕ)). IsSome p) (sym inv.0.told) tells in
-          let found = subst (λ (o : Option ℕ). FindsTransaction c.args.pages (log_of (w.image mid)) c.transactions.place c.args.end o) c.in-Some.is (c.in_ok-next.ensures.found tells_mid) in
-          let is = subst (λ (i : Image). IsTransactionAt c.args.pages (log_of i) c.transactions.place found.0 c.in-Some.next) inv.0.same found.1 in
-          (so_far.0 ++ found.0 ∷ [], transactions_on c.args.pages (log_of (w.image old)) c.args.at so_far.0 c.transactions.place found.0 c.in-Some.next so_far.1 is),
-    )
+    let onward = subst (λ (o : Option ℕ). IsOnward c.transactions.place c.args.end o) c.in-Some.is c.in_ok-next.ensures.onward in record {
+      reads = reads_more w old mid c.transaction_end.new.world 0 _ 0 inv.reads c.in_ok-next.ensures.reads;
+      inside = onward.1;
+      so_far = λ tells.
+          let so_far = inv.so_far tells in
+          let found = subst (λ (o : Option ℕ). FindsTransaction c.args.pages (log_of (w.image mid)) c.transactions.place c.args.end o) c.in-Some.is (c.in_ok-next.ensures.found tells) in
+          let is = subst (λ (i : Image). IsTransactionAt c.args.pages (log_of i) c.transactions.place found.0 c.in-Some.next) inv.reads.same found.1 in
+          (so_far.0 ++ found.0 ∷ [], transactions_on c.args.pages (log_of (w.image old)) c.args.at so_far.0 c.transactions.place found.0 c.in-Some.next so_far.1 is);
+    }
 
 pub returns-in-None-clause-found : goal.returns-in-None-clause-found
 returns-in-None-clause-found g c tells ts some are =
@@ -37,8 +35,7 @@ returns-in-None-clause-found g c tells ts some are =
     let old = c.args.world.now in
     let mid = c.transactions.world in
     let inv = c.transactions.invariant in
-    let so_far = inv.3 tells in
-    let tells_mid : IsSome (w.printed mid) = subst (λ (p : Option (List ℕ)). IsSome p) (sym inv.0.told) tells in
-    let none = subst (λ (o : Option ℕ). FindsTransaction c.args.pages (log_of (w.image mid)) c.transactions.place c.args.end o) c.in-None.is (c.in_ok-next.ensures.found tells_mid) in
+    let so_far = inv.so_far tells in
+    let none = subst (λ (o : Option ℕ). FindsTransaction c.args.pages (log_of (w.image mid)) c.transactions.place c.args.end o) c.in-None.is (c.in_ok-next.ensures.found tells) in
     let next = transactions_rest c.args.pages (log_of (w.image old)) c.args.at so_far.0 ts c.transactions.place c.args.end c.requires.few so_far.1 are c.transactions-test.true in
-    none next.0 next.1 next.3 (subst (λ (i : Image). IsTransactionAt c.args.pages (log_of i) c.transactions.place next.0 next.1) (sym inv.0.same) next.2)
+    none next.0 next.1 next.3 (subst (λ (i : Image). IsTransactionAt c.args.pages (log_of i) c.transactions.place next.0 next.1) (sym inv.reads.same) next.2)

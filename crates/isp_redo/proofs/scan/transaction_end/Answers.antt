@@ -1,10 +1,10 @@
-use Rattle.std.proofs.Common.{◌+◌, ◌<◌, ◌≤◌, ◌++◌, [], ◌∷◌, ℕ, List, length, Option, None, IsSome, sym, ◌∙◌, ap, subst, arith}
+use Rattle.std.proofs.Common.{◌+◌, ◌<◌, ◌≤◌, ◌++◌, [], ◌∷◌, ℕ, List, length, None, ◌∙◌, ap, subst, arith, Option}
 use Rattle.std.proofs.lemmas.List.{length-append}
 use Rattle.isp_disk.specs.Moments.{Image}
+use Rattle.isp_disk.proofs.Phases.{reads_more}
 use Rattle.isp_format.specs.Log.{log_of}
 use Rattle.isp_format.specs.Ranges.{Range}
 use Rattle.isp_redo.specs.Reading.{AreRangesAt, FindsRange, IsOnward, IsRangeAt}
-use Rattle.isp_redo.proofs.Chained.{chain_reads}
 use Rattle.isp_redo.proofs.Positions.{count_is, ranges_forward, ranges_on, ranges_rest, transaction_forward}
 use Rattle.isp_redo.proofs.scan.transaction_end.Goals as goal
 
@@ -25,10 +25,9 @@ returns-in-None-clause-found g c tells ranges next less is =
     let mid = c.loop-range.world in
     let log = log_of (w.image old) in
     let inv = c.loop-range.invariant in
-    let so_far = inv.4 tells in
-    let tells_mid : IsSome (w.printed mid) = subst (λ (p : Option (List ℕ)). IsSome p) (sym inv.0.told) tells in
-    let none = subst (λ (o : Option ℕ). FindsRange c.args.pages (log_of (w.image mid)) c.loop-range.place c.args.end o) c.in-None.is (c.in_ok-next.ensures.found tells_mid) in
-    let none_old = subst (λ (i : Image). FindsRange c.args.pages (log_of i) c.loop-range.place c.args.end None) inv.0.same none in
+    let so_far = inv.so_far tells in
+    let none = subst (λ (o : Option ℕ). FindsRange c.args.pages (log_of (w.image mid)) c.loop-range.place c.args.end o) c.in-None.is (c.in_ok-next.ensures.found tells) in
+    let none_old = subst (λ (i : Image). FindsRange c.args.pages (log_of i) c.loop-range.place c.args.end None) inv.reads.same none in
     let few = c.in_ok-count.ensures.few in
     let count = count_is c.args.pages log c.args.at c.in_ok-count.count ranges next (omega (arith, few)) (c.in_ok-count.ensures.count tells) is in
     let rest = ranges_rest c.args.pages log (c.args.at + 2) so_far.0 ranges c.loop-range.place next c.requires.few so_far.2 is.each (omega (arith, so_far.1, count)) in
@@ -41,16 +40,14 @@ loop-range-preserved g c =
     let old = c.args.world.now in
     let mid = c.loop-range.world in
     let inv = c.loop-range.invariant in
-    let onward = subst (λ (o : Option ℕ). IsOnward c.loop-range.place c.args.end o) c.in-Some.is c.in_ok-next.ensures.onward in (
-      chain_reads w.clock w.left_since w.image w.pending w.printed w.print_faults old mid c.range_end.new.world inv.0 c.range_end.ensures.reads,
-      c.in_ok-next.ensures.cause.steady ∙ inv.1,
-      omega (arith, inv.2, onward.0),
-      onward.1,
-      λ tells.
-          let so_far = inv.4 tells in
-          let tells_mid : IsSome (w.printed mid) = subst (λ (p : Option (List ℕ)). IsSome p) (sym inv.0.told) tells in
-          let found = subst (λ (o : Option ℕ). FindsRange c.args.pages (log_of (w.image mid)) c.loop-range.place c.args.end o) c.in-Some.is (c.in_ok-next.ensures.found tells_mid) in
-          let is = subst (λ (i : Image). IsRangeAt c.args.pages (log_of i) c.loop-range.place found.0 c.in-Some.next) inv.0.same found.1 in
+    let onward = subst (λ (o : Option ℕ). IsOnward c.loop-range.place c.args.end o) c.in-Some.is c.in_ok-next.ensures.onward in record {
+      reads = reads_more w old mid c.range_end.new.world 0 _ 0 inv.reads c.in_ok-next.ensures.reads;
+      onward = omega (arith, inv.onward, onward.0);
+      inside = onward.1;
+      so_far = λ tells.
+          let so_far = inv.so_far tells in
+          let found = subst (λ (o : Option ℕ). FindsRange c.args.pages (log_of (w.image mid)) c.loop-range.place c.args.end o) c.in-Some.is (c.in_ok-next.ensures.found tells) in
+          let is = subst (λ (i : Image). IsRangeAt c.args.pages (log_of i) c.loop-range.place found.0 c.in-Some.next) inv.reads.same found.1 in
           let long = length-append so_far.0 (found.0 ∷ []) in
-          (so_far.0 ++ found.0 ∷ [], omega (arith, long, so_far.1), ranges_on c.args.pages (log_of (w.image old)) (c.args.at + 2) so_far.0 c.loop-range.place found.0 c.in-Some.next so_far.2 is),
-    )
+          (so_far.0 ++ found.0 ∷ [], omega (arith, long, so_far.1), ranges_on c.args.pages (log_of (w.image old)) (c.args.at + 2) so_far.0 c.loop-range.place found.0 c.in-Some.next so_far.2 is);
+    }

@@ -1,39 +1,56 @@
-use Rattle.std.proofs.Common.{◌∙◌, sym, subst}
-use Rattle.std.specs.Prelude.{IsSome}
-use Rattle.isp_replay.proofs.PutLaws.{put_now, settled_stops}
+use Rattle.std.proofs.Common.{◌∙◌, arith}
+use Rattle.isp_replay.proofs.PutLaws.{put_now, put_stands}
+use Rattle.isp_replay.proofs.Replayed.{replay_fails, stood_for, stops_put, stops_replayed}
 use Rattle.isp_stable.specs.File.{placed}
 use Rattle.isp_replay.proofs.replaying.replay.Goals as goal
 
-pub settle-requires-clause-cached : goal.settle-requires-clause-cached
-settle-requires-clause-cached g c = λ tells.
+pub settle-requires : goal.settle-requires
+settle-requires g c =
     let put = c.in_ok-put_ranges.ensures in
-    let before = subst IsSome put.shape.told tells in
-    (put.put before (c.requires.file before)).cached
+    record {
+      steady = record {
+        quiet = put.kept.ready.quiet;
+        below = put.kept.ready.below;
+        cached = λ tells. (put.put tells (c.requires.file tells)).put.cached;
+      };
+      unpinned = put.kept.ready.unpinned;
+      room = omega (arith, put.kept.room, c.requires.room);
+    }
 
-pub returns-in_err-settle-clause-stops : goal.returns-in_err-settle-clause-stops
-returns-in_err-settle-clause-stops g c = λ tells file.
+pub returns-in_err-put_ranges-clause-kept : goal.returns-in_err-put_ranges-clause-kept
+returns-in_err-put_ranges-clause-kept g c =
+    replay_fails g.W.World c.args.cache.now c.put_ranges.new.cache c.in_err-put_ranges.field-0.0 _ c.from_residual.ensures.1 c.in_err-put_ranges.ensures.kept
+    (λ tells. (c.in_err-put_ranges.ensures.put tells (c.requires.file tells)).tested)
+
+pub returns-in_err-put_ranges-clause-stops : goal.returns-in_err-put_ranges-clause-stops
+returns-in_err-put_ranges-clause-stops g c = λ tells.
+    let file = c.requires.file tells in
+    stops_put g.W.World c.args.cache.now c.put_ranges.new.cache.stable.world file (c.in_err-put_ranges.ensures.put tells file).stops
+
+pub returns-in-Ok-clause-stood : goal.returns-in-Ok-clause-stood
+returns-in-Ok-clause-stood g c = λ tells.
     let w = g.W.World in
     let s = c.args.cache.now in
-    let put = c.in_ok-put_ranges.ensures in
-    let is = put.put tells file in
-    settled_stops w (placed w s.stable) file.batches s.stable c.settle.new.cache.stable c.put_ranges.new.cache is put.shape (put.stops tells file)
-    (λ same. c.settle.ensures.stops (subst IsSome (sym put.shape.told) tells) is.cached same)
+    let file = c.requires.file tells in
+    let put = (c.in_ok-put_ranges.ensures.put tells file).put in
+    stood_for w s c.settle.new.self.stable.world file _ (c.in-Ok.ensures.contents tells ∙ put_now w (placed w s.stable) file.batches c.put_ranges.new.cache put)
 
-pub returns-clause-stops : goal.returns-clause-stops
-returns-clause-stops g c = λ tells file.
+pub returns-in-Ok-clause-stops : goal.returns-in-Ok-clause-stops
+returns-in-Ok-clause-stops g c = λ tells.
     let w = g.W.World in
     let s = c.args.cache.now in
-    let put = c.in_ok-put_ranges.ensures in
-    let is = put.put tells file in
-    settled_stops w (placed w s.stable) file.batches s.stable c.settle.new.cache.stable c.put_ranges.new.cache is put.shape (put.stops tells file)
-    (λ same. c.settle.ensures.stops (subst IsSome (sym put.shape.told) tells) is.cached same)
+    let mid = c.put_ranges.new.cache in
+    let file = c.requires.file tells in
+    let ranges = c.in_ok-put_ranges.ensures in
+    let put = ranges.put tells file in
+    stops_replayed w s mid c.settle.new.self.stable.world file put.put ranges.kept.shape ranges.kept.calls.printed put.stops (c.settle.ensures.stops tells (put_stands w (placed w s.stable) file.batches mid put.put))
 
-pub returns-clause-placed : goal.returns-clause-placed
-returns-clause-placed g c = λ tells file.
+pub returns-in-Err-clause-stops : goal.returns-in-Err-clause-stops
+returns-in-Err-clause-stops g c = λ tells.
     let w = g.W.World in
-    let put = c.in_ok-put_ranges.ensures in
-    c.in_ok-settle.ensures.placed (subst IsSome (sym put.shape.told) tells)
-    ∙ put_now w (placed w c.args.cache.now.stable) file.batches c.put_ranges.new.cache (put.put tells file)
-
-pub returns-clause-emptied : goal.returns-clause-emptied
-returns-clause-emptied g c = λ tells. c.in_ok-settle.ensures.emptied (subst IsSome (sym c.in_ok-put_ranges.ensures.shape.told) tells)
+    let s = c.args.cache.now in
+    let mid = c.put_ranges.new.cache in
+    let file = c.requires.file tells in
+    let ranges = c.in_ok-put_ranges.ensures in
+    let put = ranges.put tells file in
+    stops_replayed w s mid c.settle.new.self.stable.world file put.put ranges.kept.shape ranges.kept.calls.printed put.stops (c.settle.ensures.stops tells (put_stands w (placed w s.stable) file.batches mid put.put))

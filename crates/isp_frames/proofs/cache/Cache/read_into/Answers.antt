@@ -1,40 +1,26 @@
-use Rattle.std.proofs.Common.{ap, sym}
-use Rattle.isp_format.specs.Doublewrite.{area}
-use Rattle.isp_frames.specs.Cached.{now}
-use Rattle.isp_stable.specs.File.{placed}
-use Rattle.isp_frames.proofs.PageLaws.{lays_read, pages_same}
-use Rattle.isp_frames.proofs.CacheLaws.{loaded_keeps}
+use Rattle.std.proofs.Common.{refl, sym, subst}
+use Rattle.isp_frames.specs.Held.{AreBelow}
+use Rattle.isp_frames.proofs.CacheLaws.{stays_loaded}
+use Rattle.isp_frames.proofs.HeldLaws.{loaded_below}
+use Rattle.isp_frames.proofs.Staying.{kept_failed, kept_read, kept_unread}
+use Rattle.isp_pool.specs.Frames.{PoolState}
 use Rattle.isp_frames.proofs.cache.Cache.read_into.Goals as goal
 
-pub returns-in_err-read_page-clause-stops : goal.returns-in_err-read_page-clause-stops
-returns-in_err-read_page-clause-stops g c = λ tells cached. c.read_page.ensures.stops tells cached.file
-
-pub returns-clause-stops : goal.returns-clause-stops
-returns-clause-stops g c = λ tells cached. c.read_page.ensures.stops tells cached.file
-
-pub returns-clause-keeps : goal.returns-clause-keeps
-returns-clause-keeps g c = λ tells cached.
-    let s = c.args.self.now in
-    loaded_keeps g.W.World s (record { stable = c.read_page.new.self; pool = c.load.new.self; batch = s.batch; page = c.read_page.new.into }) cached
-    c.args.frame c.args.p c.read_page.new.into c.frames.ensures.kept c.read_page.ensures.same c.read_page.ensures.log c.read_page.ensures.shape
-    (record { below = c.requires.within; clean = c.requires.clean; absent = c.requires.absent; read = c.in_ok-read_page.ensures.page tells })
-    c.requires.unpinned c.load.ensures
-
-pub returns-clause-log_bytes : goal.returns-clause-log_bytes
-returns-clause-log_bytes g c = λ tells place low high. (λ i. sym c.read_page.ensures.same i place)
-
-pub returns-in_err-read_page-clause-pages : goal.returns-in_err-read_page-clause-pages
-returns-in_err-read_page-clause-pages g c = λ tells cached.
-    let s = c.args.self.now in
-    lays_read g.W.World s.stable (now g.W.World s) c.read_page.new.self.world (c.read_page.ensures.pages tells cached.file)
-
-pub returns-clause-pages : goal.returns-clause-pages
-returns-clause-pages g c = λ tells cached.
-    let s = c.args.self.now in
-    lays_read g.W.World s.stable (now g.W.World s) c.read_page.new.self.world (c.read_page.ensures.pages tells cached.file)
-
-pub returns-clause-placed : goal.returns-clause-placed
-returns-clause-placed g c = λ tells cached.
+pub returns-clause-kept : goal.returns-clause-kept
+returns-clause-kept g c =
     let w = g.W.World in
     let s = c.args.self.now in
-    pages_same (placed w s.stable) (now w s) (placed w c.read_page.new.self) (ap area c.read_page.ensures.same)
+    let page = c.read_page.new.into in
+    let new = record s { stable = c.read_page.new.self; pool = c.load.new.self; page = page } in
+    let reads = c.in_ok-read_page.ensures.reads in
+    kept_read w s new tt refl
+    (subst (λ (pool : PoolState). AreBelow s.stable.pages pool.frames) (sym c.load.ensures) (loaded_below s.pool c.args.frame c.args.p page s.stable.pages c.requires.frame.within c.requires.page c.requires.steady.below))
+    c.requires.steady reads
+    (λ tells cached. stays_loaded w s new cached c.args.frame c.args.p page c.frames.ensures.kept reads.reads.same reads.log reads.shape
+    (record { below = c.requires.frame.within; clean = c.requires.frame.clean; absent = c.requires.frame.absent; read = c.in_ok-read_page.ensures.page tells })
+    c.requires.frame.unpinned c.load.ensures)
+
+pub returns-in_err-read_page-clause-kept : goal.returns-in_err-read_page-clause-kept
+returns-in_err-read_page-clause-kept g c =
+    let s = c.args.self.now in
+    kept_failed g.W.World s _ _ _ c.from_residual.ensures.0 (kept_unread g.W.World s (record s { stable = c.read_page.new.self; page = c.read_page.new.into }) _ refl c.in_err-read_page.ensures.reads)

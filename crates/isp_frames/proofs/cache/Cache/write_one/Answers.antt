@@ -1,63 +1,41 @@
-use Rattle.std.proofs.Common.{[], ◌∷◌, sym, subst}
+use Rattle.std.proofs.Common.{[], ◌∷◌, Ok, refl, sym, subst}
+use Rattle.isp_disk.specs.declared.world.Failed.{Failed}
 use Rattle.isp_format.specs.Contents.{ranges_of}
 use Rattle.isp_format.specs.Ranges.{cover}
-use Rattle.isp_frames.specs.Gathered.{IsGathered}
-use Rattle.isp_frames.proofs.CacheLaws.{gathered_keeps}
-use Rattle.isp_frames.proofs.Gathering.{gathered_one}
-use Rattle.isp_frames.specs.Cached.{now}
-use Rattle.isp_frames.proofs.PageLaws.{lays_batch}
-use Rattle.isp_pool.specs.Frames.{PoolState}
-use Rattle.isp_stable.specs.File.{ArePagesOf, placed}
+use Rattle.isp_frames.specs.Cached.{KeepsCache}
+use Rattle.isp_frames.specs.Held.{AreBelow, cleaned_at}
+use Rattle.isp_frames.proofs.Gathering.{gathered_one, numbered_by}
+use Rattle.isp_frames.proofs.KeptLaws.{cleaned_below, cleaned_one}
+use Rattle.isp_frames.proofs.Staying.{Gathers, kept_failed, kept_unwritten, kept_written}
+use Rattle.isp_pool.specs.Frames.{PoolState, frame_at}
+use Rattle.isp_stable.specs.File.{placed}
 use Rattle.isp_frames.proofs.cache.Cache.write_one.Goals as goal
 
-pub returns-in_err-write_pages-clause-stops : goal.returns-in_err-write_pages-clause-stops
-returns-in_err-write_pages-clause-stops g c = λ tells cached.
-    let s = c.args.self.now in
-    let one = gathered_one s.pool (placed g.W.World s.stable) (cover (ranges_of cached.file.batches)) c.args.frame c.numbered_page.result
-    c.frames.ensures.kept c.numbered_page.ensures c.requires.unpinned (record { clean = cached.clean; covered = cached.covered }) in
-    c.write_pages.ensures.stops tells cached.file one.agree
-
-pub returns-clause-stops : goal.returns-clause-stops
-returns-clause-stops g c = λ tells cached.
-    let s = c.args.self.now in
-    let one = gathered_one s.pool (placed g.W.World s.stable) (cover (ranges_of cached.file.batches)) c.args.frame c.numbered_page.result
-    c.frames.ensures.kept c.numbered_page.ensures c.requires.unpinned (record { clean = cached.clean; covered = cached.covered }) in
-    c.write_pages.ensures.stops tells cached.file one.agree
-
-pub returns-clause-keeps : goal.returns-clause-keeps
-returns-clause-keeps g c = λ tells cached.
-    let s = c.args.self.now in
-    let log = cover (ranges_of cached.file.batches) in
-    let entry = c.numbered_page.result in
-    let one = gathered_one s.pool (placed g.W.World s.stable) log c.args.frame entry
-    c.frames.ensures.kept c.numbered_page.ensures c.requires.unpinned (record { clean = cached.clean; covered = cached.covered }) in
-    gathered_keeps g.W.World s (record { stable = c.write_pages.new.self; pool = c.clean.new.self; batch = s.batch; page = s.page }) cached
-    (entry ∷ []) (c.in_ok-write_pages.ensures.batches tells cached.file) (c.in_ok-write_pages.ensures.placed tells)
-    (subst (λ (t : PoolState). IsGathered s.pool.frames t.frames (placed g.W.World s.stable) log (entry ∷ [])) (sym c.clean.ensures) one)
-
-pub returns-in_err-write_pages-clause-pages : goal.returns-in_err-write_pages-clause-pages
-returns-in_err-write_pages-clause-pages g c = λ tells cached.
+pub returns-clause-kept : goal.returns-clause-kept
+returns-clause-kept g c =
     let w = g.W.World in
     let s = c.args.self.now in
     let entry = c.numbered_page.result in
-    let one = gathered_one s.pool (placed w s.stable) (cover (ranges_of cached.file.batches)) c.args.frame entry
+    let cleaned = cleaned_at s.pool c.args.frame in
+    let new = record s { stable = c.write_pages.new.self; pool = cleaned } in
+    let by = numbered_by (frame_at s.pool c.args.frame) entry c.numbered_page.ensures in
+    let gathers : Gathers w s new (entry ∷ []) = λ cached. gathered_one s.pool (placed w s.stable) (cover (ranges_of cached.file.batches)) c.args.frame entry
     c.frames.ensures.kept c.numbered_page.ensures c.requires.unpinned (record { clean = cached.clean; covered = cached.covered }) in
-    lays_batch w s.stable (now w s) (entry ∷ []) c.write_pages.new.self.world one.pages (c.write_pages.ensures.pages tells cached.file)
+    let below : AreBelow s.stable.pages cleaned.frames = cleaned_below s.pool cleaned s.stable.pages (cleaned_one s.pool c.args.frame by.frame by.there) c.requires.steady.below in
+    let done = c.in_ok-write_pages.ensures in
+    subst (λ (pool : PoolState). KeepsCache w {T = Unit {0}} {E = Failed} s (record new { pool = pool }) (Ok tt)) (sym c.clean.ensures)
+    (kept_written w s new (entry ∷ []) tt c.requires.steady refl below gathers
+    (record { written = done.written; stops = done.stops; pages = done.pages; log = done.log; kept = done.kept }))
 
-pub returns-clause-pages : goal.returns-clause-pages
-returns-clause-pages g c = λ tells cached.
+pub returns-in_err-write_pages-clause-kept : goal.returns-in_err-write_pages-clause-kept
+returns-in_err-write_pages-clause-kept g c =
     let w = g.W.World in
     let s = c.args.self.now in
     let entry = c.numbered_page.result in
-    let one = gathered_one s.pool (placed w s.stable) (cover (ranges_of cached.file.batches)) c.args.frame entry
+    let new = record s { stable = c.write_pages.new.self } in
+    let mid = record s { pool = cleaned_at s.pool c.args.frame } in
+    let gathers : Gathers w s mid (entry ∷ []) = λ cached. gathered_one s.pool (placed w s.stable) (cover (ranges_of cached.file.batches)) c.args.frame entry
     c.frames.ensures.kept c.numbered_page.ensures c.requires.unpinned (record { clean = cached.clean; covered = cached.covered }) in
-    lays_batch w s.stable (now w s) (entry ∷ []) c.write_pages.new.self.world one.pages (c.write_pages.ensures.pages tells cached.file)
-
-pub returns-clause-placed : goal.returns-clause-placed
-returns-clause-placed g c = λ tells cached.
-    let w = g.W.World in
-    let s = c.args.self.now in
-    let entry = c.numbered_page.result in
-    let one = gathered_one s.pool (placed w s.stable) (cover (ranges_of cached.file.batches)) c.args.frame entry
-    c.frames.ensures.kept c.numbered_page.ensures c.requires.unpinned (record { clean = cached.clean; covered = cached.covered }) in
-    subst (ArePagesOf (placed w s.stable) (now w s)) (sym (c.in_ok-write_pages.ensures.placed tells)) one.pages
+    let done = c.in_err-write_pages.ensures in
+    kept_failed w s new _ _ c.from_residual.ensures.0 (kept_unwritten w s new mid (entry ∷ []) _ refl gathers
+    (record { written = done.written; stops = done.stops; pages = done.pages; log = done.log; kept = done.kept }))

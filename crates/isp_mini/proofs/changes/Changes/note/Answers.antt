@@ -1,5 +1,5 @@
 use Rattle.std.proofs.Common.{◌≡◌, ◌≤◌, ◌+◌, List, length, rules, sym, subst, arith}
-use Rattle.isp_page.specs.Calls.{most_changed}
+use Rattle.isp_page.specs.State.{most_changed}
 use Rattle.isp_mini.specs.Extents.{AreExtents, with_extent}
 use Rattle.isp_mini.specs.declared.changes.Extent.{Extent}
 use Rattle.isp_mini.proofs.ExtentLaws.{extents_with}

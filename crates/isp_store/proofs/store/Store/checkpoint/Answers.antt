@@ -1,78 +1,31 @@
-use Rattle.std.proofs.Common.{rules, ◌≡◌, List, [], false, sym, subst}
-use Rattle.std.specs.Prelude.{IsSome}
-use Rattle.isp_page.specs.Calls.{AddsNone, LeavesAlone}
-use Rattle.isp_format.specs.Control.{IsFanout, IsPages}
-use Rattle.isp_mini.specs.declared.changes.Extent.{Extent}
-use Rattle.isp_stable.specs.File.{HasBatches}
-use Rattle.isp_store.specs.Inside.{seen}
-use Rattle.isp_store.specs.Running.{IsRunning}
-use Rattle.isp_store.specs.State.{StoreState, contents, may_leave, told}
-use Rattle.isp_store.specs.declared.standing.Standing.TheVariants.{Failed, Sound}
-use Rattle.isp_store.proofs.Passing.{calm_stops, calm_time, failed_decided, flushed_alone, sound_decided}
-use Rattle.isp_store.proofs.Settled.{now_flushed}
+use Rattle.std.proofs.Common.{false, [], refl}
+use Rattle.isp_store.specs.declared.store.Store.TheInside.{Inside}
+use Rattle.isp_store.proofs.Fields.{fails, flushes, stands_closed}
 use Rattle.isp_store.proofs.store.Store.checkpoint.Goals as goal
 
-pub returns-in-Ok-clause-stops : goal.returns-in-Ok-clause-stops
-returns-in-Ok-clause-stops g c =
-    let w = g.W.World in
-    let old : StoreState g.row.W.Denot = seen c.self.inside in
-    let new : StoreState g.row.W.Denot = seen (record c.self.inside { cache = c.settle.new.cache }) in
-    subst (λ (s : StoreState g.row.W.Denot). IsSome (told w s) → AddsNone (may_leave w s) (may_leave w new)) c.self.view_is (λ tells.
-    let sound : c.self.inside.standing ≡ Sound = search rules in
-    let along = (c.self.invariant.sound sound).along tells in
-    calm_stops w g.met.W.World.counts_now old new along.file tells c.settle.ensures.shape.told (c.settle.ensures.stops tells along.file) (sound_decided c.self.inside.standing sound))
+pub returns-in-Ok-clause-flushed : goal.returns-in-Ok-clause-flushed
+returns-in-Ok-clause-flushed g c =
+    let s = c.self.inside in
+    let new : Inside g.row.W.Denot = record s { cache = c.settle_pages.new.cache } in
+    flushes g.W.World s c.args.self.now c.self.view_is c.requires.usable new _ _ g.met.W.World.counts_now refl c.in-Ok.ensures.kept
 
-pub returns-in-Ok-clause-time : goal.returns-in-Ok-clause-time
-returns-in-Ok-clause-time g c = rw (← c.self.view_is) (λ tells.
-    let sound : c.self.inside.standing ≡ Sound = search rules in
-    let along = (c.self.invariant.sound sound).along tells in
-    calm_time g.W.World _ _ along.file (c.settle.ensures.stops tells along.file))
+pub returns-in-Err-clause-flushed : goal.returns-in-Err-clause-flushed
+returns-in-Err-clause-flushed g c =
+    let s = c.self.inside in
+    let new : Inside g.row.W.Denot = record s { cache = c.settle_pages.new.cache; is_usable = false } in
+    record { steps = fails g.W.World s c.args.self.now c.self.view_is c.requires.usable new _ [] _ g.met.W.World.counts_now c.in-Err.ensures.kept; alone = λ tells. tt }
 
-pub returns-in-Err-clause-stops : goal.returns-in-Err-clause-stops
-returns-in-Err-clause-stops g c =
-    let w = g.W.World in
-    let old : StoreState g.row.W.Denot = seen c.self.inside in
-    let new : StoreState g.row.W.Denot = seen (record c.self.inside { cache = c.settle.new.cache; standing = Failed }) in
-    subst (λ (s : StoreState g.row.W.Denot). IsSome (told w s) → AddsNone (may_leave w s) (may_leave w new)) c.self.view_is (λ tells.
-    let sound : c.self.inside.standing ≡ Sound = search rules in
-    let along = (c.self.invariant.sound sound).along tells in
-    calm_stops w g.met.W.World.counts_now old new along.file tells c.settle.ensures.shape.told (c.settle.ensures.stops tells along.file) (failed_decided))
-
-pub returns-in-Err-clause-time : goal.returns-in-Err-clause-time
-returns-in-Err-clause-time g c = rw (← c.self.view_is) (λ tells.
-    let sound : c.self.inside.standing ≡ Sound = search rules in
-    let along = (c.self.invariant.sound sound).along tells in
-    calm_time g.W.World _ _ along.file (c.settle.ensures.stops tells along.file))
-
-pub settle-requires-clause-running : goal.settle-requires-clause-running
-settle-requires-clause-running g c =
-    let sound : c.self.inside.standing ≡ Sound = search rules in
-    let begun : c.self.inside.is_begun ≡ false = subst (λ (s : StoreState g.row.W.Denot). s.is_begun ≡ false) (sym c.self.view_is) c.requires in
-    let none : c.self.inside.changes ≡ [] = c.self.invariant.closed sound begun in
-    subst (λ (extents : List Extent). IsRunning g.W.World c.self.inside.cache.stable c.self.inside.cache.pool extents) none (c.self.invariant.sound sound)
-
-pub invariant_of-self-in-Ok : goal.invariant_of-self-in-Ok
-invariant_of-self-in-Ok g c =
-    let sound : c.self.inside.standing ≡ Sound = search rules in
-    let begun : c.self.inside.is_begun ≡ false = subst (λ (s : StoreState g.row.W.Denot). s.is_begun ≡ false) (sym c.self.view_is) c.requires in
-    let none : c.self.inside.changes ≡ [] = c.self.invariant.closed sound begun in
+pub returns-in-Ok-clause-in_place : goal.returns-in-Ok-clause-in_place
+returns-in-Ok-clause-in_place g c =
+    let s = c.self.inside in
+    let new : Inside g.row.W.Denot = record s { cache = c.settle_pages.new.cache } in
+    let done = c.in-Ok.ensures in
+    let settled = done.settled in
     record {
-      shape = (subst IsPages (sym c.settle.ensures.shape.pages) c.self.invariant.shape.0, subst IsFanout (sym c.settle.ensures.shape.fanout) c.self.invariant.shape.1);
-      batch = c.settle.ensures.room;
-      sound = λ is. subst (λ (extents : List Extent). IsRunning g.W.World c.settle.new.cache.stable c.settle.new.cache.pool extents) (sym none) c.in-Ok.ensures.running;
-      closed = λ is begun. none;
+      quiet = settled.idle.steady.quiet;
+      clean = settled.clean;
+      end = settled.end;
+      placed_is = λ tells. (settled.in_place tells).placed_is;
+      emptied = λ tells. (settled.in_place tells).emptied;
+      stands = λ tells. stands_closed g.W.World new done.kept.running tells;
     }
-
-pub returns-in-Ok-clause-emptied : goal.returns-in-Ok-clause-emptied
-returns-in-Ok-clause-emptied g c =
-    let w = g.W.World in
-    subst (λ (s : StoreState g.row.W.Denot). IsSome (told w s) → HasBatches w c.settle.new.cache.stable []) c.self.view_is (λ tells. c.in-Ok.ensures.emptied tells)
-
-pub returns-in-Ok-clause-alone : goal.returns-in-Ok-clause-alone
-returns-in-Ok-clause-alone g c =
-    let w = g.W.World in
-    let new : StoreState g.row.W.Denot = seen (record c.self.inside { cache = c.settle.new.cache }) in
-    subst (λ (s : StoreState g.row.W.Denot). IsSome (told w s) → LeavesAlone (contents w new) (may_leave w new)) c.self.view_is (λ tells.
-    let sound : c.self.inside.standing ≡ Sound = search rules in
-    let along = c.in-Ok.ensures.running.along (subst IsSome (sym c.settle.ensures.shape.told) tells) in
-    flushed_alone w new along.file c.in-Ok.ensures.running.quiet sound (now_flushed w new.stable new.pool along))

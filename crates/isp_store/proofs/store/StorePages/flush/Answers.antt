@@ -1,23 +1,25 @@
-use Rattle.std.proofs.Common.{rules, ◌≡◌, List, [], false, sym, subst}
-use Rattle.std.specs.Prelude.{IsSome}
-use Rattle.isp_mini.specs.declared.changes.Extent.{Extent}
-use Rattle.isp_page.specs.Calls.{LeavesAlone}
-use Rattle.isp_store.specs.Inside.{seen}
-use Rattle.isp_store.specs.Running.{IsAlong}
-use Rattle.isp_store.specs.State.{StoreState, contents, may_leave, told}
-use Rattle.isp_store.specs.declared.standing.Standing.TheVariants.{Sound}
-use Rattle.isp_store.proofs.Passing.{flushed_alone}
-use Rattle.isp_store.proofs.Settled.{now_flushed}
+use Rattle.std.proofs.Common.{Ok, refl, subst}
+use Rattle.isp_disk.specs.declared.world.Failed.{Failed}
+use Rattle.isp_page.specs.Calls.{Flushes}
+use Rattle.isp_store.specs.Calls.{StandsNow}
+use Rattle.isp_store.specs.State.{StoreState, store}
+use Rattle.isp_store.proofs.Fields.{flushes, running_closed, stands_closed}
+use Rattle.isp_store.proofs.Settled.{stays_still}
 use Rattle.isp_store.proofs.store.StorePages.flush.Goals as goal
 
 pub returns-clause-flushed : goal.returns-clause-flushed
 returns-clause-flushed g c =
     let w = g.W.World in
-    let old : StoreState g.row.W.Denot = seen c.self.inside in
-    let sound : c.self.inside.standing ≡ Sound = search rules in
-    let begun : c.self.inside.is_begun ≡ false = subst (λ (s : StoreState g.row.W.Denot). s.is_begun ≡ false) (sym c.self.view_is) c.requires in
-    let none : c.self.inside.changes ≡ [] = c.self.invariant.closed sound begun in
-    let running = c.self.invariant.sound sound in
-    subst (λ (s : StoreState g.row.W.Denot). IsSome (told w s) → LeavesAlone (contents w s) (may_leave w s)) c.self.view_is (λ tells.
-    let along : IsAlong w old.stable old.pool [] = subst (λ (extents : List Extent). IsAlong w old.stable old.pool extents) none (running.along tells) in
-    flushed_alone w old along.file running.quiet sound (now_flushed w old.stable old.pool along))
+    let s = c.self.inside in
+    let running = running_closed w s c.args.self.now c.self.view_is c.requires.usable c.self.invariant c.requires.none in
+    let nothing : Unit {0} = tt in
+    subst (λ (state : StoreState g.row.W.Denot). Flushes {T = Unit {0}} (store w) c.args.self.now state (Ok nothing)) c.self.view_is
+    (flushes w s c.args.self.now c.self.view_is c.requires.usable s nothing nothing g.met.W.World.counts_now refl
+    (stays_still w {E = Failed} s.cache _ nothing (λ left told since. g.met.W.World.only_now s.cache.stable.world left told since) running))
+
+pub returns-clause-image : goal.returns-clause-image
+returns-clause-image g c =
+    let w = g.W.World in
+    let s = c.self.inside in
+    let running = running_closed w s c.args.self.now c.self.view_is c.requires.usable c.self.invariant c.requires.none in
+    λ tells. subst (StandsNow w) c.self.view_is (stands_closed w s running tells)

@@ -1,46 +1,36 @@
-use Rattle.std.proofs.Common.{rules, ◌≡◌, subst}
-use Rattle.std.specs.Prelude.{IsSome}
-use Rattle.isp_format.specs.Ranges.{page_of}
-use Rattle.isp_page.specs.Calls.{AddsNone}
-use Rattle.isp_store.specs.Inside.{seen}
-use Rattle.isp_store.specs.State.{StoreState, contents, may_leave, told}
-use Rattle.isp_store.specs.declared.standing.Standing.TheVariants.{Failed, Sound}
-use Rattle.isp_store.proofs.Passing.{calm_stops, calm_time, failed_decided, sound_decided}
+use Rattle.std.proofs.Common.{false, refl}
+use Rattle.isp_store.proofs.Fields.{fails, goes_on, running_here, whole, whole_failed}
+use Rattle.isp_store.specs.declared.store.Store.TheInside.{Inside}
 use Rattle.isp_store.proofs.store.StorePages.read.Goals as goal
 
-pub returns-in-Ok-clause-stops : goal.returns-in-Ok-clause-stops
-returns-in-Ok-clause-stops g c =
+pub returns-in-Ok-clause-kept : goal.returns-in-Ok-clause-kept
+returns-in-Ok-clause-kept g c =
     let w = g.W.World in
-    let old : StoreState g.row.W.Denot = seen c.self.inside in
-    let new : StoreState g.row.W.Denot = seen (record c.self.inside { cache = c.read_page.new.cache }) in
-    subst (λ (s : StoreState g.row.W.Denot). IsSome (told w s) → AddsNone (may_leave w s) (may_leave w new)) c.self.view_is (λ tells.
-    let sound : c.self.inside.standing ≡ Sound = search rules in
-    let along = (c.self.invariant.sound sound).along tells in
-    calm_stops w g.met.W.World.counts_now old new along.file tells c.read_page.ensures.shape.told (c.read_page.ensures.stops tells along.file) (sound_decided c.self.inside.standing sound))
+    let s = c.self.inside in
+    let new : Inside g.row.W.Denot = record s { cache = c.read_page.new.cache } in
+    goes_on w s c.args.self.now c.self.view_is c.requires.usable new s.changes _ _ g.met.W.World.counts_now refl
+    (c.in-Ok.ensures.kept s.changes (running_here w s c.args.self.now c.self.view_is c.requires.usable c.self.invariant))
 
-pub returns-in-Ok-clause-time : goal.returns-in-Ok-clause-time
-returns-in-Ok-clause-time g c = rw (← c.self.view_is) (λ tells.
-    let sound : c.self.inside.standing ≡ Sound = search rules in
-    let along = (c.self.invariant.sound sound).along tells in
-    calm_time g.W.World _ _ along.file (c.read_page.ensures.stops tells along.file))
-
-pub returns-in-Err-clause-stops : goal.returns-in-Err-clause-stops
-returns-in-Err-clause-stops g c =
+pub returns-in-Err-clause-kept : goal.returns-in-Err-clause-kept
+returns-in-Err-clause-kept g c =
     let w = g.W.World in
-    let old : StoreState g.row.W.Denot = seen c.self.inside in
-    let new : StoreState g.row.W.Denot = seen (record c.self.inside { cache = c.read_page.new.cache; standing = Failed }) in
-    subst (λ (s : StoreState g.row.W.Denot). IsSome (told w s) → AddsNone (may_leave w s) (may_leave w new)) c.self.view_is (λ tells.
-    let sound : c.self.inside.standing ≡ Sound = search rules in
-    let along = (c.self.invariant.sound sound).along tells in
-    calm_stops w g.met.W.World.counts_now old new along.file tells c.read_page.ensures.shape.told (c.read_page.ensures.stops tells along.file) (failed_decided))
+    let s = c.self.inside in
+    let new : Inside g.row.W.Denot = record s { cache = c.read_page.new.cache; is_usable = false } in
+    fails w s c.args.self.now c.self.view_is c.requires.usable new _ s.changes _ g.met.W.World.counts_now
+    (c.in-Err.ensures.kept s.changes (running_here w s c.args.self.now c.self.view_is c.requires.usable c.self.invariant))
 
-pub returns-in-Err-clause-time : goal.returns-in-Err-clause-time
-returns-in-Err-clause-time g c = rw (← c.self.view_is) (λ tells.
-    let sound : c.self.inside.standing ≡ Sound = search rules in
-    let along = (c.self.invariant.sound sound).along tells in
-    calm_time g.W.World _ _ along.file (c.read_page.ensures.stops tells along.file))
-
-pub returns-in-Ok-clause-page : goal.returns-in-Ok-clause-page
-returns-in-Ok-clause-page g c =
+pub returns-in-Ok-clause-whole : goal.returns-in-Ok-clause-whole
+returns-in-Ok-clause-whole g c =
     let w = g.W.World in
-    subst (λ (s : StoreState g.row.W.Denot). IsSome (told w s) → c.read_page.new.into.bytes ≡ page_of (contents w s) c.args.p.0) c.self.view_is (λ tells. c.in-Ok.ensures.page tells)
+    let s = c.self.inside in
+    let new : Inside g.row.W.Denot = record s { cache = c.read_page.new.cache } in
+    whole w s c.args.self.now c.self.view_is c.requires.usable new s.changes _ _
+    (c.in-Ok.ensures.kept s.changes (running_here w s c.args.self.now c.self.view_is c.requires.usable c.self.invariant))
+
+pub returns-in-Err-clause-whole : goal.returns-in-Err-clause-whole
+returns-in-Err-clause-whole g c =
+    let w = g.W.World in
+    let s = c.self.inside in
+    let new : Inside g.row.W.Denot = record s { cache = c.read_page.new.cache; is_usable = false } in
+    whole_failed w s c.args.self.now c.self.view_is c.requires.usable new s.changes _ _
+    (c.in-Err.ensures.kept s.changes (running_here w s c.args.self.now c.self.view_is c.requires.usable c.self.invariant))
