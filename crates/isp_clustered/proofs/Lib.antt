@@ -1,0 +1,4 @@
+pub mod CellLaws
+pub mod EditLaws
+pub mod RowLaws
+pub mod TreeLaws
