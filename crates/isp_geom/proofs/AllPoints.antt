@@ -9,40 +9,53 @@ use Rattle.isp_geom.specs.declared.form.Point as p
 use Rattle.isp_geom.specs.declared.form.Form.{Form, Form-F, roll-Form, out-Form, roll-out-Form, fold-roll-Form}
 use Rattle.isp_geom.specs.declared.form.Form.TheVariants.{Point, LineString, Polygon, MultiPoint, MultiLineString, MultiPolygon, Collection, rolls-Point, rolls-LineString, rolls-Polygon, rolls-MultiPoint, rolls-MultiLineString, rolls-MultiPolygon, rolls-Collection}
 use Rattle.isp_geom.specs.Rules.{is_form, is_level, is_list, is_count, is_point, is_line, is_ring, is_closed, is_polygon}
-use Rattle.isp_geom.specs.Bounds.{points_of, level_points, widened, corner}
+use Rattle.isp_geom.specs.Bounds.{points_of, points_by_levels, level_points, widened, corner}
 use Rattle.isp_geom.proofs.Levels.{is_form-roll}
+
+by_levels-point : (x : p.Point) → points_by_levels (Point x) ≡ x ∷ []
+unfolding points_by_levels
+by_levels-point x = ap points_by_levels (sym (rolls-Point x)) ∙ fold-roll-Form (List p.Point) level_points (Form-F.Point x)
+
+-- the levels give what stands there for a point alone
+pub points-by_levels : (f : Form) → points_of f ≡ points_by_levels f
+unfolding points_of
+points-by_levels (Point x) = sym (by_levels-point x)
+points-by_levels f = refl
 
 pub points-point : (x : p.Point) → points_of (Point x) ≡ x ∷ []
 unfolding points_of
-points-point x = ap points_of (sym (rolls-Point x)) ∙ fold-roll-Form (List p.Point) level_points (Form-F.Point x)
+points-point x = refl
 
 pub points-line : (ps : List p.Point) → points_of (LineString ps) ≡ ps
-unfolding points_of
-points-line ps = ap points_of (sym (rolls-LineString ps)) ∙ fold-roll-Form (List p.Point) level_points (Form-F.LineString ps)
+unfolding points_of points_by_levels
+points-line ps = ap points_by_levels (sym (rolls-LineString ps)) ∙ fold-roll-Form (List p.Point) level_points (Form-F.LineString ps)
 
 pub points-polygon : (rs : List (List p.Point)) → points_of (Polygon rs) ≡ flat_map (λ ring. ring) rs
-unfolding points_of
-points-polygon rs = ap points_of (sym (rolls-Polygon rs)) ∙ fold-roll-Form (List p.Point) level_points (Form-F.Polygon rs)
+unfolding points_of points_by_levels
+points-polygon rs = ap points_by_levels (sym (rolls-Polygon rs)) ∙ fold-roll-Form (List p.Point) level_points (Form-F.Polygon rs)
 
 pub points-points : (ps : List p.Point) → points_of (MultiPoint ps) ≡ ps
-unfolding points_of
-points-points ps = ap points_of (sym (rolls-MultiPoint ps)) ∙ fold-roll-Form (List p.Point) level_points (Form-F.MultiPoint ps)
+unfolding points_of points_by_levels
+points-points ps = ap points_by_levels (sym (rolls-MultiPoint ps)) ∙ fold-roll-Form (List p.Point) level_points (Form-F.MultiPoint ps)
 
 pub points-lines : (ls : List (List p.Point)) → points_of (MultiLineString ls) ≡ flat_map (λ line. line) ls
-unfolding points_of
-points-lines ls = ap points_of (sym (rolls-MultiLineString ls)) ∙ fold-roll-Form (List p.Point) level_points (Form-F.MultiLineString ls)
+unfolding points_of points_by_levels
+points-lines ls = ap points_by_levels (sym (rolls-MultiLineString ls)) ∙ fold-roll-Form (List p.Point) level_points (Form-F.MultiLineString ls)
 
 pub points-polygons : (ps : List (List (List p.Point))) → points_of (MultiPolygon ps) ≡ flat_map (flat_map (λ ring. ring)) ps
-unfolding points_of
-points-polygons ps = ap points_of (sym (rolls-MultiPolygon ps)) ∙ fold-roll-Form (List p.Point) level_points (Form-F.MultiPolygon ps)
+unfolding points_of points_by_levels
+points-polygons ps = ap points_by_levels (sym (rolls-MultiPolygon ps)) ∙ fold-roll-Form (List p.Point) level_points (Form-F.MultiPolygon ps)
 
 flat_map-map : (f : Form → List p.Point) (ms : List Form) → flat_map (λ member. member) (map f ms) ≡ flat_map f ms
 flat_map-map f [] = refl
 flat_map-map f (m ∷ ms) = ap (λ ps. f m ++ ps) (flat_map-map f ms)
 
+by_levels-members : (ms : List Form) → points_by_levels (Collection ms) ≡ flat_map points_by_levels ms
+unfolding points_by_levels
+by_levels-members ms = ap points_by_levels (sym (rolls-Collection ms)) ∙ fold-roll-Form (List p.Point) level_points (Form-F.Collection ms) ∙ flat_map-map points_by_levels ms
+
 pub points-members : (ms : List Form) → points_of (Collection ms) ≡ flat_map points_of ms
-unfolding points_of
-points-members ms = ap points_of (sym (rolls-Collection ms)) ∙ fold-roll-Form (List p.Point) level_points (Form-F.Collection ms) ∙ flat_map-map points_of ms
+points-members ms = points-by_levels (Collection ms) ∙ by_levels-members ms ∙ ap (λ (g : Form → List p.Point). flat_map g ms) (λ i f. sym (points-by_levels f) i)
 
 pub ruleset all_points = (points-point, points-line, points-polygon, points-points, points-lines, points-polygons, points-members)
 

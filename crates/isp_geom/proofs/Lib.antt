@@ -1,5 +1,6 @@
 pub mod AllPoints
 pub mod Forms
+pub mod LeastBox
 pub mod Levels
 pub mod Readers
 pub mod Sequences

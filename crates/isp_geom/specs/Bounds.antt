@@ -6,6 +6,7 @@ use Rattle.isp_mbr.specs.Corners.{Corners}
 use Rattle.isp_mbr.specs.Boxes.{union}
 use Rattle.isp_geom.specs.declared.form.Point.{Point}
 use Rattle.isp_geom.specs.declared.form.Form.{Form, Form-F, fold-Form}
+use Rattle.isp_geom.specs.declared.form.Form.TheVariants as form
 
 -- all points of one level of a form, with those of each member in its place
 abbrev pub level_points : Form-F (List Point) → List Point
@@ -17,9 +18,14 @@ level_points (Form-F.MultiLineString lines) = flat_map (λ line. line) lines
 level_points (Form-F.MultiPolygon polygons) = flat_map (flat_map (λ ring. ring)) polygons
 level_points (Form-F.Collection members) = flat_map (λ member. member) members
 
--- all points of a form
+-- all points of a form, level by level
+unfoldable pub points_by_levels : Form → List Point
+points_by_levels = fold-Form (List Point) level_points
+
+-- all points of a form. A point alone is written out, so that what is said of it computes.
 unfoldable pub points_of : Form → List Point
-points_of = fold-Form (List Point) level_points
+points_of (form.Point p) = level_points (Form-F.Point p)
+points_of f = points_by_levels f
 
 -- the box of one point
 abbrev pub corner : Point → Corners

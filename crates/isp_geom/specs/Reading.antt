@@ -1,6 +1,7 @@
 -- Reading from the front of bytes: a value and the bytes after it, or nothing where no such value is spelled there.
-use Rattle.std.specs.Prelude.{◌≡◌, ℕ, zero, suc, ◌==◌, Bool, true, false, List, [], ◌∷◌, Option, Some, None, Result, Ok, Err, if◌then◌else◌}
-use Rattle.std.specs.Int.{cast_signed, from_be_bytes, w16, w32}
+use Rattle.std.specs.Prelude.{◌≡◌, ℕ, ℤ, zero, suc, ◌==◌, Bool, true, false, List, [], ◌∷◌, Option, Some, None, Result, Ok, Err, if◌then◌else◌}
+use Rattle.std.specs.Int.{cast_signed, w32}
+use Rattle.byteorder.specs.Endian.{big_number}
 use Rattle.isp_geom.specs.declared.error.GeomError.{GeomError}
 use Rattle.isp_geom.specs.declared.error.GeomError.TheVariants.{NotGeometry, OutOfMemory}
 use Rattle.isp_geom.specs.declared.form.Point as p
@@ -32,13 +33,18 @@ byte_at (b ∷ rest) = Some (b, rest)
 byte_at [] = None
 
 abbrev pub count_at : List ℕ → Option (ℕ × List ℕ)
-count_at (a ∷ b ∷ rest) = Some (from_be_bytes w16 (a ∷ b ∷ []), rest)
+count_at (a ∷ b ∷ rest) = Some (big_number 2 (a ∷ b ∷ []), rest)
 count_at _ = None
 
-abbrev pub point_at : List ℕ → Option (p.Point × List ℕ)
-point_at (a ∷ b ∷ c ∷ d ∷ e ∷ f ∷ g ∷ h ∷ rest) =
-    Some (record { x = cast_signed w32 (from_be_bytes w32 (a ∷ b ∷ c ∷ d ∷ [])); y = cast_signed w32 (from_be_bytes w32 (e ∷ f ∷ g ∷ h ∷ [])) }, rest)
-point_at _ = None
+abbrev pub coordinate_at : List ℕ → Option (ℤ × List ℕ)
+coordinate_at (a ∷ b ∷ c ∷ d ∷ rest) = Some (cast_signed w32 (big_number 4 (a ∷ b ∷ c ∷ d ∷ [])), rest)
+coordinate_at _ = None
+
+unfoldable pub point_at : List ℕ → Option (p.Point × List ℕ)
+point_at bytes = do
+  x ← coordinate_at bytes
+  y ← coordinate_at x.1
+  Some (record { x = x.0; y = y.0 }, y.1)
 
 -- so many values, one after another
 abbrev pub items_at : {X : Type 0} → (List ℕ → Option (X × List ℕ)) → ℕ → List ℕ → Option (List X × List ℕ)

@@ -1,13 +1,16 @@
 //! Why bytes are not read.
 
 use std::alloc::AllocError;
+use thiserror::Error;
 
 /// Why bytes are not read.
-#[derive(Clone, Copy, Debug, PartialEq, Eq)]
+#[derive(Clone, Copy, Debug, PartialEq, Eq, Error)]
 pub enum GeomError {
     /// No geometry is spelled so.
+    #[error("not a geometry")]
     NotGeometry,
     /// Want of memory.
+    #[error("out of memory")]
     OutOfMemory,
 }
 

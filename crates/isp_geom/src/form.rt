@@ -2,12 +2,12 @@
 
 ghost use Rattle.std.specs.Prelude.{◌≡◌, IfOk};
 
-use isp_mbr::Duplicate;
+use isp_base::Duplicate;
 use sqlite_items::Items;
 use std::alloc::{AllocError, Global};
 
 /// A point of whole coordinates.
-#[derive(Clone, Copy, Debug, PartialEq, Eq)]
+#[derive(Clone, Copy, PartialEq, Eq)]
 pub struct Point {
     pub x: i32,
     pub y: i32,
@@ -26,7 +26,7 @@ pub type Polygons = Items<Rings>;
 pub type Members = Items<Form>;
 
 /// The seven kinds of geometries (OpenGIS Implementation Specification for Simple Features).
-#[derive(Debug, Drop)]
+#[derive(Drop)]
 pub enum Form {
     Point(Point),
     LineString(Points),

@@ -5,13 +5,13 @@ ghost use Rattle.isp_geom.specs.Rules.{IsGeometry};
 
 use crate::Form;
 use crate::rules::{LEVELS, is_form};
-use isp_mbr::Duplicate;
+use isp_base::Duplicate;
 use std::alloc::{AllocError, Global};
 use std::marker::Model;
 
 /// A form that keeps the rules: coordinates of at most 1,073,741,824 in size, lines of at least 2 points, closed rings
 /// of at least 4, lists of 1 to 65,535 members and collections at most 8 deep. Contracts see it as its form.
-#[derive(Debug, Drop)]
+#[derive(Drop)]
 pub struct Geometry {
     pub form: Form,
 }

@@ -12,15 +12,13 @@ mod geometry;
 mod laws;
 mod read;
 mod rules;
-#[cfg(test)]
-mod tests;
 mod write;
 
 pub use bounds::box_of;
 pub use error::GeomError;
 pub use form::{Form, Members, Point, Points, Polygons, Rings};
 pub use geometry::Geometry;
-pub use laws::law_no_spelling_begins_another;
+pub use laws::{law_box_is_least, law_no_spelling_begins_another};
 pub use read::from_bytes;
 pub use rules::is_closed;
 pub use write::{bytes_len, to_bytes};

@@ -2,11 +2,12 @@
 
 ghost use Rattle.std.specs.Prelude.{◌≡◌, ◌++◌, OnOk, IfOk, List, ℕ, length, min, ◌+◌, ◌≤◌, ◌∷◌};
 ghost use Rattle.isp_geom.specs.Spelling.{spelling, point, listed, coordinate};
-ghost use Rattle.std.specs.Int.{to_be_bytes, w16};
+ghost use Rattle.byteorder.specs.Endian.{big_bytes};
 ghost use Rattle.std.specs.List.{flat_map};
 
 use crate::{Form, Geometry, Point};
-use isp_mbr::Bytes;
+use byteorder::{BigEndian, ByteOrder};
+use isp_base::Bytes;
 use sqlite_items::Items;
 use std::alloc::{AllocError, Global};
 
@@ -71,7 +72,9 @@ impl<T: Spell> Spell for Items<T> {
 fn put_coordinate(out: &mut Vec<u8>, z: i32) -> Result<(), AllocError>
     ensures { OnOk result (out.new.items ≡ out.old.items ++ coordinate z) }
 {
-    out.extend_from_slice(&z.to_be_bytes())?;
+    let mut field = [0; 4];
+    BigEndian::write_u32(&mut field, z.cast_unsigned());
+    out.extend_from_slice(&field)?;
     Ok(())
 }
 
@@ -85,10 +88,11 @@ fn put_pair(out: &mut Vec<u8>, x: i32, y: i32) -> Result<(), AllocError>
 
 // Two bytes for the number of members.
 fn put_count(out: &mut Vec<u8>, count: usize) -> Result<(), AllocError>
-    ensures { OnOk result (out.new.items ≡ out.old.items ++ to_be_bytes w16 count) }
+    ensures { OnOk result (out.new.items ≡ out.old.items ++ big_bytes 2 count) }
 {
-    out.push((count / 256 % 256) as u8)?;
-    out.push((count % 256) as u8)?;
+    let mut field = [0; 2];
+    BigEndian::write_u16(&mut field, (count % 65_536) as u16);
+    out.extend_from_slice(&field)?;
     Ok(())
 }
 

@@ -1,9 +1,9 @@
--- The reply of a statement that tables answer is their own, unless the statement is a refusal with another number; and it
--- has a text, unless the statement is a refusal whose number has none.
-use Rattle.std.proofs.Common.{◌≡◌, ℕ, ℤ, pos, Bool, true, false, ◌==◌, List, refl, Option, Some, None, if◌then◌else◌}
+-- The reply of a statement that tables answer is their own, unless the statement is a refusal that isn't.
+use Rattle.std.proofs.Common.{◌≡◌, ℕ, ℤ, Bool, true, false, List, refl, Option, Some, None, if◌then◌else◌}
 use Rattle.std.specs.Prelude.{slice_get}
 use Rattle.std.specs.List.{list_any}
 use Rattle.std.specs.Map.{values_of}
+use Rattle.isp_plain.specs.declared.refusal.Refusal.TheVariants.{DuplicateKey, NoSuchTable, RowTooLarge}
 use Rattle.isp_plain.specs.declared.value.Row.{Row}
 use Rattle.isp_plain.specs.declared.statement.Assign.{Assign}
 use Rattle.isp_plain.specs.declared.statement.Condition.{Condition}
@@ -13,21 +13,23 @@ use Rattle.isp_plain.specs.declared.statement.Statement.{Statement}
 use Rattle.isp_plain.specs.declared.statement.Statement.TheVariants.{Create, Insert, Select, Update, Delete, Begin, Commit, Rollback, Refused}
 use Rattle.isp_plain.specs.Does.{Change, does, place_of, changed_in, changed_at, insert, insert_or, update, delete, outgrows, select_reply, table_named}
 use Rattle.isp_plain.specs.Entries.{first_duplicate}
-use Rattle.isp_plain.specs.Laws.{RefusesWithText}
+use Rattle.isp_plain.specs.Refusals.{is_own}
 use Rattle.isp_plain.specs.Tables.{Table}
-use Rattle.isp_plain.specs.Texts.{HasText, has_text, refusals}
-use Rattle.isp_plain.proofs.TextLaws.{IsOwn}
+
+-- a reply that tables give, not a full file, a deadlock or the end of a session
+abbrev pub IsOwn : Reply → Type 0
+IsOwn reply.Ok = Unit {0}
+IsOwn (reply.Count n) = Unit {0}
+IsOwn (reply.Rows rows) = Unit {0}
+IsOwn (reply.Err refusal) = is_own refusal ≡ true
+IsOwn reply.End = ⊥
 
 -- where the statement is a refusal, it is none of a full file or a deadlock
 abbrev pub RefusesOwn : Statement → Type 0
-RefusesOwn (Refused number at) = ((number == 1114) ≡ false) × ((number == 1213) ≡ false)
+RefusesOwn (Refused refusal) = is_own refusal ≡ true
 RefusesOwn _ = Unit {0}
 
-known : (has_text 1062 ≡ true) × (has_text 1146 ≡ true) × (has_text 9011 ≡ true)
-unfolding refusals
-known = (refl, refl, refl)
-
-module _ (P : Reply → Type 0) (missing : P (reply.Err 1146 (pos 0))) (duplicate : (key : ℤ) → P (reply.Err 1062 key)) (large : P (reply.Err 9011 (pos 0)))
+module _ (P : Reply → Type 0) (missing : P (reply.Err NoSuchTable)) (duplicate : (key : ℤ) → P (reply.Err (DuplicateKey key))) (large : P (reply.Err RowTooLarge))
     (counted : (n : ℕ) → P (reply.Count n)) where
   insert_gives : (rows : List Row) (table : Table) (found : Option ℤ) → P (insert_or rows table found).reply
   insert_gives rows table None = counted _
@@ -57,31 +59,16 @@ module _ (P : Reply → Type 0) (missing : P (reply.Err 1146 (pos 0))) (duplicat
   deletes tables name condition = in_gives tables (delete condition) (λ table. counted _) (place_of tables name)
 
 select_own : (table : Option Table) (columns : List ℕ) (condition : Condition) → IsOwn (select_reply table columns condition)
-select_own None columns condition = (refl, refl)
+select_own None columns condition = refl
 select_own (Some table) columns condition = tt
-
-select_has_text : (table : Option Table) (columns : List ℕ) (condition : Condition) → HasText (select_reply table columns condition)
-select_has_text None columns condition = known.1
-select_has_text (Some table) columns condition = tt
 
 pub does_own : (tables : List Table) (statement : Statement) → RefusesOwn statement → IsOwn (does tables statement).reply
 does_own tables (Create name schema) own = tt
-does_own tables (Insert name rows) own = inserts IsOwn (refl, refl) (λ key. (refl, refl)) (refl, refl) (λ n. tt) tables name rows
+does_own tables (Insert name rows) own = inserts IsOwn refl (λ key. refl) refl (λ n. tt) tables name rows
 does_own tables (Select name columns condition) own = select_own (table_named tables name) columns condition
-does_own tables (Update name sets condition) own = updates IsOwn (refl, refl) (λ key. (refl, refl)) (refl, refl) (λ n. tt) tables name sets condition
-does_own tables (Delete name condition) own = deletes IsOwn (refl, refl) (λ key. (refl, refl)) (refl, refl) (λ n. tt) tables name condition
+does_own tables (Update name sets condition) own = updates IsOwn refl (λ key. refl) refl (λ n. tt) tables name sets condition
+does_own tables (Delete name condition) own = deletes IsOwn refl (λ key. refl) refl (λ n. tt) tables name condition
 does_own tables Begin own = tt
 does_own tables Commit own = tt
 does_own tables Rollback own = tt
-does_own tables (Refused number at) own = own
-
-pub does_has_text : (tables : List Table) (statement : Statement) → RefusesWithText statement → HasText (does tables statement).reply
-does_has_text tables (Create name schema) known_one = tt
-does_has_text tables (Insert name rows) known_one = inserts HasText known.1 (λ key. known.0) known.2 (λ n. tt) tables name rows
-does_has_text tables (Select name columns condition) known_one = select_has_text (table_named tables name) columns condition
-does_has_text tables (Update name sets condition) known_one = updates HasText known.1 (λ key. known.0) known.2 (λ n. tt) tables name sets condition
-does_has_text tables (Delete name condition) known_one = deletes HasText known.1 (λ key. known.0) known.2 (λ n. tt) tables name condition
-does_has_text tables Begin known_one = tt
-does_has_text tables Commit known_one = tt
-does_has_text tables Rollback known_one = tt
-does_has_text tables (Refused number at) known_one = known_one
+does_own tables (Refused refusal) own = own

@@ -1,5 +1,5 @@
 -- Rows that are put in the places of others one by one, and how many rows are left where some leave.
-use Rattle.std.proofs.Common.{◌≡◌, ℕ, suc, ◌+◌, ℤ, pos, Bool, true, false, not, List, [], ◌∷◌, refl, ap, ◌∙◌, sym, length, map, cond, Some, None, Option, arith}
+use Rattle.std.proofs.Common.{◌≡◌, ℕ, suc, ◌+◌, ℤ, Bool, true, false, not, List, [], ◌∷◌, refl, ap, ◌∙◌, sym, length, map, cond, Some, None, Option, arith}
 use Rattle.std.specs.Prelude.{filter}
 use Rattle.std.specs.declared.cmp.Ordering.TheVariants.{Less, Equal}
 use Rattle.std.specs.Ordering.{int_cmp, is_eq, ordering_reverse}
@@ -8,6 +8,7 @@ use Rattle.std.specs.List.{AllByRecursion, list_any}
 use Rattle.std.specs.List.Sorted.{IsStrictlySortedBy}
 use Rattle.std.specs.Map.{lookup, keys_of, values_of}
 use Rattle.std.specs.BTreeMap.{is_at}
+use Rattle.isp_plain.specs.declared.refusal.Refusal.TheVariants.{RowTooLarge}
 use Rattle.isp_plain.specs.declared.value.Row.{Row}
 use Rattle.isp_plain.specs.declared.statement.Assign.{Assign}
 use Rattle.isp_plain.specs.declared.statement.Condition.{Condition}
@@ -123,5 +124,5 @@ update_is sets condition table written none is sorted =
     ap (with_changes table.rows) is ∙ all_changed (with_sets sets) (holds condition) table.rows sorted in
     if_other (list_any (outgrows table.schema sets condition) (values_of table.rows)) _ _ none ∙ sym (same_change table _ _ _ _ count rows)
 
-pub refused_is : (sets : List Assign) (condition : Condition) (table : Table) → list_any (outgrows table.schema sets condition) (values_of table.rows) ≡ true → update sets condition table ≡ refused 9011 (pos 0) table
+pub refused_is : (sets : List Assign) (condition : Condition) (table : Table) → list_any (outgrows table.schema sets condition) (values_of table.rows) ≡ true → update sets condition table ≡ refused RowTooLarge table
 refused_is sets condition table some = if_so (list_any (outgrows table.schema sets condition) (values_of table.rows)) _ _ some

@@ -1,10 +1,7 @@
-pub mod AloneSerial
-pub mod AloneFits
-pub mod AloneLaws
 pub mod DoesLaws
 pub mod EntriesBack
 pub mod EntriesChanged
 pub mod LinedLaws
+pub mod SetLaws
 pub mod SignedReads
-pub mod SpellingLaws
 pub mod TextLaws

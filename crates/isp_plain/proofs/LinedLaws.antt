@@ -18,8 +18,7 @@ use Rattle.isp_plain.specs.declared.statement.Statement.TheVariants.{Create, Ins
 use Rattle.isp_plain.specs.Conditions.{holds}
 use Rattle.isp_plain.specs.Does.{Change, does, place_of, changed_in, changed_at, insert, insert_or, update, updated, delete, outgrows, cut, selected, with_set, with_sets, select_reply, table_at}
 use Rattle.isp_plain.specs.Entries.{first_duplicate, with_row, with_rows}
-use Rattle.isp_plain.specs.Lined.{is_lined_value, is_lined_row, are_lined_rows, is_lined_table, are_lined, is_lined_statement, is_lined_reply}
-use Rattle.isp_plain.specs.Spelling.{is_one_line}
+use Rattle.isp_plain.specs.Lined.{is_lined_value, is_lined_row, are_lined_rows, is_lined_table, are_lined, is_lined_statement, is_lined_reply, is_one_line}
 use Rattle.isp_plain.specs.Tables.{Table}
 use Rattle.isp_plain.specs.Texts.{reply_text}
 use Rattle.isp_plain.specs.Values.{key_of}
@@ -163,7 +162,7 @@ does_lined tables (Delete name condition) all is = changed_lined tables (delete 
 does_lined tables Begin all is = all
 does_lined tables Commit all is = all
 does_lined tables Rollback all is = all
-does_lined tables (Refused number at) all is = all
+does_lined tables (Refused refusal) all is = all
 
 -- ---- replies
 
@@ -202,7 +201,7 @@ does_shows tables (Delete name condition) all = change_shows tables (delete cond
 does_shows tables Begin all = refl
 does_shows tables Commit all = refl
 does_shows tables Rollback all = refl
-does_shows tables (Refused number at) all = refl
+does_shows tables (Refused refusal) all = refl
 
 -- so the text of its reply is one line
 pub does_line : (tables : List Table) (statement : Statement) → are_lined tables ≡ true → is_one_line (reply_text (does tables statement).reply) ≡ true

@@ -1,27 +1,29 @@
--- The text of every reply is one line, and none but a refusal's is taken for END, a full file or a deadlock.
-use Rattle.std.proofs.Common.{◌≡◌, ◌∙◌, ap, sym, subst, ℕ, zero, suc, ℤ, pos, negsuc, ◌/◌, ◌%◌, Bool, true, false, not, ◌==◌, ◌&&◌, ◌||◌, List, [], ◌∷◌, ◌++◌, map, length, refl, arith, if◌then◌else◌, codes}
+-- The text of every reply is one line.
+use Rattle.std.proofs.Common.{◌≡◌, ◌∙◌, ap, subst, ℕ, zero, suc, ℤ, pos, negsuc, ◌/◌, ◌%◌, Bool, true, false, not, ◌==◌, List, [], ◌∷◌, ◌++◌, map, length, refl, arith, if◌then◌else◌, codes, Option, Some, None}
 use Rattle.std.specs.Fmt.{decimal, signed_decimal, digits, digits_onto, digit_glyph}
 use Rattle.std.specs.List.{flat_map, list_all}
-use Rattle.std.specs.Str.{bytes_eq}
 use Rattle.std.proofs.lemmas.Bool.{and_parts, not-true}
 use Rattle.std.proofs.lemmas.Bool.Decides.{nat_tests}
 use Rattle.std.proofs.lemmas.List.Folds.{list_all-append}
 use Rattle.isp_geom.specs.declared.form.Point as p
-use Rattle.isp_geom.specs.declared.form.Form.{Form, Form-F, ind-Form, map-Form, fold-roll-Form}
+use Rattle.isp_geom.specs.declared.form.Form.{Form, Form-F, ind-Form, map-Form}
 use Rattle.isp_wkt.specs.Printed.{printed, level, pair, chained, listed, marked, line, lines}
 use Rattle.isp_wkt.specs.Words.{word}
+use Rattle.isp_wkt.proofs.Texts.{text-roll}
 use Rattle.isp_wkt.specs.declared.kind.Kind.{Kind}
 use Rattle.isp_wkt.specs.declared.kind.Kind.TheVariants as kind
+use Rattle.isp_wkt.specs.declared.cause.WktCause.{WktCause}
+use Rattle.isp_wkt.specs.declared.cause.WktCause.TheVariants as cause
+use Rattle.isp_plain.specs.declared.refusal.Refusal.{Refusal}
+use Rattle.isp_plain.specs.declared.refusal.Refusal.TheVariants.{TableExists, UnknownColumn, DuplicateKey, Syntax, FileFull, ColumnCount, NoSuchTable, Deadlock, OutOfRange, TooLong, Geometry, NotAllowedHere, RowTooLarge, OutOfLimits, WrongType, AlreadyBegun, KeyCannotBeSet}
 use Rattle.isp_plain.specs.declared.value.Row.{Row}
 use Rattle.isp_plain.specs.declared.value.Value.{Value}
 use Rattle.isp_plain.specs.declared.value.Value.TheVariants.{Int, Text, Geo}
 use Rattle.isp_plain.specs.declared.statement.Reply.{Reply}
 use Rattle.isp_plain.specs.declared.statement.Reply.TheVariants as reply
-use Rattle.isp_plain.specs.Alone.{answer_with}
-use Rattle.isp_plain.specs.Lined.{is_lined_value, is_lined_row, are_lined_rows, is_lined_reply}
-use Rattle.isp_plain.specs.Serial.{is_given}
-use Rattle.isp_plain.specs.Spelling.{is_one_line}
-use Rattle.isp_plain.specs.Texts.{Refusal, refusals, text_of, text_among, ok_text, end_text, full_text, deadlock_text, doubled, quoted, value_text, values_text, row_text, count_text, reply_text}
+use Rattle.isp_plain.specs.Lined.{is_lined_value, is_lined_row, are_lined_rows, is_lined_reply, is_one_line}
+use Rattle.isp_plain.specs.Refusals.{cause_words, number, state, words, shown, shown_text, told_text, refusal_text}
+use Rattle.isp_plain.specs.Texts.{ok_text, end_text, doubled, quoted, value_text, values_text, row_text, count_text, reply_text}
 
 -- two pieces of one line are one line
 pub one_line-append : (xs ys : List ℕ) → is_one_line xs ≡ true → is_one_line ys ≡ true → is_one_line (xs ++ ys) ≡ true
@@ -107,10 +109,9 @@ layer_line (Form-F.Collection members) =
     after_word kind.Collection (texts ++ 41 ∷ []) (one_line-append texts (41 ∷ []) (members_line 40 refl members) refl)
 
 printed_line : (form : Form) → is_one_line (printed form) ≡ true
-unfolding printed
 printed_line = ind-Form IsLine (λ x y is.
     let layer = subst (λ z. is_one_line (level (map-Form Form (List ℕ) printed z)) ≡ true) is (layer_line y) in
-    ap is_one_line (fold-roll-Form (List ℕ) level x) ∙ layer)
+    ap is_one_line (text-roll x) ∙ layer)
 
 -- ---- rows
 
@@ -157,125 +158,61 @@ count_line n = one_line-append (codes "OK ") (decimal n ++ codes " rows") refl (
 
 -- ---- refusals
 
-fixed_lines : (is_one_line ok_text ≡ true) × (is_one_line end_text ≡ true) × (list_all (λ refusal. is_one_line refusal.words) refusals ≡ true)
-unfolding ok_text end_text full_text deadlock_text refusals
-fixed_lines = (refl, refl, refl)
+cause_line : (cause : WktCause) → is_one_line (cause_words cause) ≡ true
+unfolding cause_words
+cause_line cause.NotWhole = refl
+cause_line cause.OutOfRange = refl
+cause_line cause.Unclosed = refl
+cause_line cause.TooFew = refl
+cause_line cause.Empty = refl
+cause_line cause.Unknown = refl
+cause_line cause.Trailing = refl
+cause_line cause.Truncated = refl
+cause_line cause.TooDeep = refl
+
+-- the state and the words of each
+parts_line : (r : Refusal) → (is_one_line (state r) ≡ true) × (is_one_line (words r) ≡ true)
+unfolding state words
+parts_line TableExists = (refl, refl)
+parts_line UnknownColumn = (refl, refl)
+parts_line (DuplicateKey key) = (refl, refl)
+parts_line Syntax = (refl, refl)
+parts_line FileFull = (refl, refl)
+parts_line ColumnCount = (refl, refl)
+parts_line NoSuchTable = (refl, refl)
+parts_line Deadlock = (refl, refl)
+parts_line OutOfRange = (refl, refl)
+parts_line TooLong = (refl, refl)
+parts_line (Geometry cause at) = (refl, cause_line cause)
+parts_line NotAllowedHere = (refl, refl)
+parts_line RowTooLarge = (refl, refl)
+parts_line OutOfLimits = (refl, refl)
+parts_line WrongType = (refl, refl)
+parts_line AlreadyBegun = (refl, refl)
+parts_line KeyCannotBeSet = (refl, refl)
+
+shown_line : (number : Option ℤ) → is_one_line (shown_text number) ≡ true
+shown_line (Some number) = signed_line number
+shown_line None = refl
+
+pub refusal_line : (r : Refusal) → is_one_line (refusal_text r) ≡ true
+refusal_line r =
+    let parts = parts_line r in
+    let told = one_line-append (words r) (shown_text (shown r)) parts.1 (shown_line (shown r)) in
+    let behind = one_line-append (state r) (32 ∷ told_text r) parts.0 (one_line-cons 32 (told_text r) refl told) in
+    one_line-append (codes "ERR ") (decimal (number r) ++ 32 ∷ (state r ++ 32 ∷ told_text r)) refl
+    (one_line-append (decimal (number r)) (32 ∷ (state r ++ 32 ∷ told_text r)) (decimal_line (number r)) (one_line-cons 32 (state r ++ 32 ∷ told_text r) refl behind))
+
+fixed_lines : (is_one_line ok_text ≡ true) × (is_one_line end_text ≡ true)
+unfolding ok_text end_text
+fixed_lines = (refl, refl)
 
 pub end_line : is_one_line end_text ≡ true
 end_line = fixed_lines.1
-
-text_of_line : (refusal : Refusal) (place : List ℕ) → is_one_line place ≡ true → is_one_line refusal.words ≡ true → is_one_line (text_of refusal place) ≡ true
-text_of_line refusal place line is = one_line-append refusal.words _ is (either refusal.has_place place [] line refl)
-
-among_line : (these : List Refusal) (number : ℕ) (place : List ℕ) → is_one_line place ≡ true → list_all (λ refusal. is_one_line refusal.words) these ≡ true → is_one_line (text_among these number place) ≡ true
-among_line [] number place line is = refl
-among_line (refusal ∷ others) number place line is =
-    let parts = and_parts (is_one_line refusal.words) (list_all (λ refusal. is_one_line refusal.words) others) is in
-    either (refusal.number == number) (text_of refusal place) (text_among others number place) (text_of_line refusal place line parts.0) (among_line others number place line parts.1)
 
 pub reply_line : (r : Reply) → is_lined_reply r ≡ true → is_one_line (reply_text r) ≡ true
 reply_line reply.Ok is = fixed_lines.0
 reply_line (reply.Count n) is = count_line n
 reply_line (reply.Rows rows) is = one_line-append (count_text (length rows)) _ (count_line (length rows)) (rows_line rows is)
-reply_line (reply.Err number at) is = among_line refusals number (signed_decimal at) (signed_line at) fixed_lines.2
+reply_line (reply.Err refusal) is = refusal_line refusal
 reply_line reply.End is = fixed_lines.1
-
--- a reply that tables give, not a full file, a deadlock or the end of a session
-abbrev pub IsOwn : Reply → Type 0
-IsOwn reply.Ok = Unit {0}
-IsOwn (reply.Count n) = Unit {0}
-IsOwn (reply.Rows rows) = Unit {0}
-IsOwn (reply.Err number at) = ((number == 1114) ≡ false) × ((number == 1213) ≡ false)
-IsOwn reply.End = ⊥
-
-abbrev is_taken : ℕ → ℕ → List ℕ → Bool
-is_taken session number text = is_given (answer_with session number text)
-
-fixed_own : (session number : ℕ) → is_taken session number ok_text ≡ false
-unfolding ok_text end_text full_text deadlock_text
-fixed_own session number = refl
-
-nothing_own : (session number : ℕ) → is_taken session number [] ≡ false
-unfolding end_text full_text deadlock_text
-nothing_own session number = refl
-
-counted_own : (session number n : ℕ) (more : List ℕ) → is_taken session number (count_text n ++ more) ≡ false
-unfolding end_text full_text deadlock_text
-counted_own session number n more = refl
-
-count_own : (session number n : ℕ) → is_taken session number (count_text n) ≡ false
-unfolding end_text full_text deadlock_text
-count_own session number n = refl
-
--- the words differ from the text before they end, or go on behind its end
-abbrev differs : List ℕ → List ℕ → Bool
-differs [] text = false
-differs (b ∷ words) [] = true
-differs (b ∷ words) (c ∷ text) = if b == c then differs words text else true
-
-differs_at : (same : Bool) (words text more : List ℕ) → (differs words text ≡ true → bytes_eq (words ++ more) text ≡ false) →
-    (if same then differs words text else true) ≡ true → (same && bytes_eq (words ++ more) text) ≡ false
-differs_at true words text more later is = later is
-differs_at false words text more later is = refl
-
-differs_with_more : (words text more : List ℕ) → differs words text ≡ true → bytes_eq (words ++ more) text ≡ false
-differs_with_more [] text more is = cc
-differs_with_more (b ∷ words) [] more is = refl
-differs_with_more (b ∷ words) (c ∷ text) more is = differs_at (b == c) words text more (differs_with_more words text more) is
-
-abbrev differs_from_given : List ℕ → Bool
-differs_from_given words = differs words end_text && (differs words full_text && differs words deadlock_text)
-
--- the words of a refusal differ from the texts that are given, unless it is one of these
-abbrev own_or_given : Refusal → Bool
-own_or_given refusal = if refusal.number == 1114 then true else if refusal.number == 1213 then true else differs_from_given refusal.words
-
-all_own_or_given : list_all own_or_given refusals ≡ true
-unfolding refusals full_text deadlock_text end_text
-all_own_or_given = refl
-
-or_none : (a b c : Bool) → a ≡ false → b ≡ false → c ≡ false → (a || b || c) ≡ false
-or_none a b c first second third = rw (first, second, third) refl
-
-words_own : (session number : ℕ) (words more : List ℕ) → differs_from_given words ≡ true → is_taken session number (words ++ more) ≡ false
-words_own session number words more is =
-    let first = and_parts (differs words end_text) (differs words full_text && differs words deadlock_text) is in
-    let others = and_parts (differs words full_text) (differs words deadlock_text) first.1 in
-    or_none _ _ _ (differs_with_more words end_text more first.0) (differs_with_more words full_text more others.0) (differs_with_more words deadlock_text more others.1)
-
-if_other : {X : Type 0} (b : Bool) (x y : X) → b ≡ false → (if b then x else y) ≡ y
-if_other true x y is = cc
-if_other false x y is = refl
-
-same_number : (n m : ℕ) → (n == m) ≡ true → n ≡ m
-same_number n m is = grind (arith, nat_tests)
-
--- the refusal of a number that is neither a full file's nor a deadlock's
-refusal_own : (session number code : ℕ) (place : List ℕ) (refusal : Refusal) → (code == 1114) ≡ false → (code == 1213) ≡ false → (refusal.number == code) ≡ true →
-    own_or_given refusal ≡ true → is_taken session number (text_of refusal place) ≡ false
-refusal_own session number code place refusal not_full not_deadlock same is =
-    let full : (refusal.number == 1114) ≡ false = ap (λ n. n == 1114) (same_number refusal.number code same) ∙ not_full in
-    let deadlock : (refusal.number == 1213) ≡ false = ap (λ n. n == 1213) (same_number refusal.number code same) ∙ not_deadlock in
-    words_own session number refusal.words _
-    (sym (if_other _ _ _ full ∙ if_other _ _ _ deadlock) ∙ is)
-
-among_at : (session number : ℕ) (found : Bool) (xs ys : List ℕ) → (found ≡ true → is_taken session number xs ≡ false) → is_taken session number ys ≡ false →
-    is_taken session number (if found then xs else ys) ≡ false
-among_at session number true xs ys first later = first refl
-among_at session number false xs ys first later = later
-
-among_own : (session number code : ℕ) (place : List ℕ) (these : List Refusal) → (code == 1114) ≡ false → (code == 1213) ≡ false → list_all own_or_given these ≡ true →
-    is_taken session number (text_among these code place) ≡ false
-among_own session number code place [] not_full not_deadlock is = nothing_own session number
-among_own session number code place (refusal ∷ others) not_full not_deadlock is =
-    let parts = and_parts (own_or_given refusal) (list_all own_or_given others) is in
-    among_at session number (refusal.number == code) (text_of refusal place) (text_among others code place)
-    (λ same. refusal_own session number code place refusal not_full not_deadlock same parts.0)
-    (among_own session number code place others not_full not_deadlock parts.1)
-
-pub own_not_given : (session number : ℕ) (r : Reply) → IsOwn r → is_given (answer_with session number (reply_text r)) ≡ false
-own_not_given session number reply.Ok own = fixed_own session number
-own_not_given session number (reply.Count n) own = count_own session number n
-own_not_given session number (reply.Rows rows) own = counted_own session number (length rows) (flat_map (λ row. 32 ∷ row_text row) rows)
-own_not_given session number (reply.Err code at) own = among_own session number code (signed_decimal at) refusals own.0 own.1 all_own_or_given
-own_not_given session number reply.End own = absurd own

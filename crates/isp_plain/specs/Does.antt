@@ -1,8 +1,10 @@
 -- What a statement answers and leaves on plain tables, as the MySQL 8.0 manual has these statements.
-use Rattle.std.specs.Prelude.{ℕ, ℤ, pos, Bool, not, nat_lt, ◌&&◌, List, [], ◌∷◌, ◌++◌, length, map, filter, slice_get, slice_set, if◌then◌else◌, Some, None, Option}
+use Rattle.std.specs.Prelude.{ℕ, ℤ, Bool, not, nat_lt, ◌&&◌, List, [], ◌∷◌, ◌++◌, length, map, filter, slice_get, slice_set, if◌then◌else◌, Some, None, Option}
 use Rattle.std.specs.List.{fold, filter_map, list_any, position}
 use Rattle.std.specs.Str.{bytes_eq}
 use Rattle.std.specs.Map.{values_of}
+use Rattle.isp_plain.specs.declared.refusal.Refusal.{Refusal}
+use Rattle.isp_plain.specs.declared.refusal.Refusal.TheVariants.{DuplicateKey, NoSuchTable, RowTooLarge}
 use Rattle.isp_plain.specs.declared.value.Row.{Row}
 use Rattle.isp_plain.specs.declared.value.Schema.{Schema}
 use Rattle.isp_plain.specs.declared.value.Value.{Value}
@@ -55,13 +57,13 @@ pub record Change : Type 0 where
   pub table : Table
 
 -- a refusal, which leaves the table
-abbrev pub refused : ℕ → ℤ → Table → Change
-refused number at table = record { reply = reply.Err number at; table = table }
+abbrev pub refused : Refusal → Table → Change
+refused refusal table = record { reply = reply.Err refusal; table = table }
 
 -- all of the rows where no key stands twice, else none
 abbrev pub insert_or : List Row → Table → Option ℤ → Change
 insert_or rows table None = record { reply = reply.Count (length rows); table = record table { rows = with_rows table.rows rows } }
-insert_or rows table (Some key) = refused 1062 key table
+insert_or rows table (Some key) = refused (DuplicateKey key) table
 
 abbrev pub insert : List Row → Table → Change
 insert rows table = insert_or rows table (first_duplicate table.rows rows)
@@ -69,7 +71,7 @@ insert rows table = insert_or rows table (first_duplicate table.rows rows)
 -- every row that holds gets its new values, or none where one of them would get too large
 abbrev pub update : List Assign → Condition → Table → Change
 update sets condition table =
-    if list_any (outgrows table.schema sets condition) (values_of table.rows) then refused 9011 (pos 0) table
+    if list_any (outgrows table.schema sets condition) (values_of table.rows) then refused RowTooLarge table
     else record {
       reply = reply.Count (count_of condition (values_of table.rows));
       table = record table { rows = map (λ e. (e.0, updated sets condition e.1)) table.rows };
@@ -94,7 +96,7 @@ answered tables reply = record { reply = reply; tables = tables }
 
 -- the refusal of a statement on a table that isn't there; binding gives it before any statement does
 abbrev pub no_such_table : Reply
-no_such_table = reply.Err 1146 (pos 0)
+no_such_table = reply.Err NoSuchTable
 
 -- the table of that name, by its place
 abbrev pub place_of : List Table → List ℕ → Option ℕ
@@ -131,4 +133,4 @@ does tables (Delete name condition) = changed_in tables (place_of tables name) (
 does tables Begin = answered tables reply.Ok
 does tables Commit = answered tables reply.Ok
 does tables Rollback = answered tables reply.Ok
-does tables (Refused number at) = answered tables (reply.Err number at)
+does tables (Refused refusal) = answered tables (reply.Err refusal)

@@ -1,16 +1,11 @@
-pub mod Alone
-pub mod Answers
 pub mod Conditions
 pub mod Does
 pub mod Entries
 pub mod Laws
 pub mod Lined
+pub mod Refusals
 pub mod RowBytes
-pub mod Script
-pub mod Serial
-pub mod Spelling
 pub mod Tables
 pub mod Texts
-pub mod Transactions
 pub mod Updating
 pub mod Values

@@ -1,5 +1,5 @@
 -- Rows whose texts stand on one line. A value's text is printed as it is, so an answer with such rows is one line.
-use Rattle.std.specs.Prelude.{Bool, true, List}
+use Rattle.std.specs.Prelude.{ℕ, Bool, true, not, ◌==◌, List}
 use Rattle.std.specs.List.{list_all}
 use Rattle.std.specs.Map.{values_of}
 use Rattle.isp_plain.specs.declared.value.Row.{Row}
@@ -9,8 +9,11 @@ use Rattle.isp_plain.specs.declared.statement.Reply.{Reply}
 use Rattle.isp_plain.specs.declared.statement.Reply.TheVariants as reply
 use Rattle.isp_plain.specs.declared.statement.Statement.{Statement}
 use Rattle.isp_plain.specs.declared.statement.Statement.TheVariants.{Insert, Update}
-use Rattle.isp_plain.specs.Spelling.{is_one_line}
 use Rattle.isp_plain.specs.Tables.{Table}
+
+-- no line feed is among the bytes
+abbrev pub is_one_line : List ℕ → Bool
+is_one_line bytes = list_all (λ b. not (b == 10)) bytes
 
 -- a text has no line feed; other values have none in their printed form
 abbrev pub is_lined_value : Value → Bool

@@ -1,9 +1,8 @@
-//! The plain model of the database, and the theorem's words.
+//! The plain model of the database.
 //!
 //! Tables are lists of rows by key, with no page, tree, lock or log: what a statement does on them (`specs/Does`) is
-//! what the engine has to do. The script, the answers that an output spells, transactions and their replay one by one
-//! (`specs/Script`, `Answers`, `Transactions`, `Serial`) are what the top call promises. `Plain` runs statements on
-//! such tables, in memory.
+//! what the engine has to do, and what it is answered has a text (`specs/Texts`). `Plain` runs statements on such tables,
+//! in memory.
 #![tactic(auto)]
 
 mod condition;
@@ -11,20 +10,19 @@ mod defined;
 mod entries;
 mod laws;
 mod plain;
-mod script;
+mod refusal;
 mod select;
+mod sets;
 mod size;
 mod statement;
 mod table;
-#[cfg(test)]
-mod tests;
 mod update;
 mod value;
 
 pub use defined::Defined;
-pub use laws::{law_replies_are_lines, law_replies_have_texts, law_spelled_once};
+pub use laws::law_replies_are_lines;
 pub use plain::Plain;
-pub use script::{Place, Script, Session, Sessions, Texts, Word, Words};
+pub use refusal::Refusal;
 pub use size::row_size;
 pub use statement::{Assign, Atom, Atoms, Condition, Indices, Op, Reply, Rows, Sets, Statement};
 pub use table::PlainTable;

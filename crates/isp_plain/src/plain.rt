@@ -4,7 +4,7 @@ ghost use Rattle.std.specs.Prelude.{◌≡◌, [], ◌∷◌, ◌++◌, ◌<◌,
 ghost use Rattle.isp_plain.specs.Does.{changed_in, delete, does, insert, no_such_table, place_of, select_reply, table_named, update};
 
 use crate::table::PlainTable;
-use crate::{Assign, Condition, Reply, Row, Schema, Statement};
+use crate::{Assign, Condition, Refusal, Reply, Row, Schema, Statement};
 use isp_mbr::{Duplicate, Name};
 use std::alloc::{AllocError, Global};
 use std::marker::Model;
@@ -64,7 +64,7 @@ impl Plain {
             Statement::Update { table, sets, w } => self.update(table, sets.as_slice(), w),
             Statement::Delete { table, w } => Ok(self.delete(table, w)),
             Statement::Begin | Statement::Commit | Statement::Rollback => Ok(Reply::Ok),
-            Statement::Refused { number, at } => Ok(refused(*number, *at)),
+            Statement::Refused(refusal) => Ok(Reply::Err(*refusal)),
         }
     }
 
@@ -168,14 +168,5 @@ impl Plain {
 fn no_such_table() -> Reply
     ensures { result ≡ no_such_table }
 {
-    Reply::Err {
-        number: 1146,
-        at: 0,
-    }
-}
-
-fn refused(number: u32, at: i64) -> Reply
-    ensures { result ≡ Reply.Err number at }
-{
-    Reply::Err { number, at }
+    Reply::Err(Refusal::NoSuchTable)
 }

@@ -1,6 +1,6 @@
 //! What is asked of tables, and what is answered.
 
-use crate::{Row, Schema, Value};
+use crate::{Refusal, Row, Schema, Value};
 use isp_mbr::{Duplicate, Name, Predicate};
 use sqlite_items::Items;
 use std::alloc::{AllocError, Global};
@@ -12,7 +12,7 @@ pub type Rows = Items<Row>;
 pub type Indices = Items<u32>;
 
 /// How a plain test compares a row's value with a number or a text (the MySQL 8.0 manual on comparison operators).
-#[derive(Clone, Copy, Debug, PartialEq, Eq)]
+#[derive(Clone, Copy, PartialEq, Eq)]
 pub enum Op {
     Eq,
     Ne,
@@ -24,7 +24,7 @@ pub enum Op {
 
 /// One test of a condition: that the column's value compares so with the value, numbers as numbers and texts by their
 /// bytes; or that the box of the column's geometry satisfies the predicate.
-#[derive(Debug, Drop)]
+#[derive(Drop)]
 pub enum Atom {
     Cmp { column: u32, op: Op, v: Value },
     Box { column: u32, p: Predicate },
@@ -34,13 +34,13 @@ pub enum Atom {
 pub type Atoms = Items<Atom>;
 
 /// A condition, which holds of a row where each of its tests does.
-#[derive(Debug, Drop)]
+#[derive(Drop)]
 pub struct Condition {
     pub atoms: Atoms,
 }
 
 /// What UPDATE sets: the column's new value.
-#[derive(Debug, Drop)]
+#[derive(Drop)]
 pub struct Assign {
     pub column: u32,
     pub v: Value,
@@ -49,9 +49,8 @@ pub struct Assign {
 /// What UPDATE sets, in the order of the text. Where a column is set twice the last one counts.
 pub type Sets = Items<Assign>;
 
-/// A statement, bound to its table's columns. `Refused` is one that was refused without a look at any row, with the
-/// number of the refusal and the key or position that it tells, else 0.
-#[derive(Debug, Drop)]
+/// A statement, bound to its table's columns. `Refused` is one that was refused without a look at any row.
+#[derive(Drop)]
 pub enum Statement {
     Create {
         name: Name,
@@ -78,20 +77,16 @@ pub enum Statement {
     Begin,
     Commit,
     Rollback,
-    Refused {
-        number: u32,
-        at: i64,
-    },
+    Refused(Refusal),
 }
 
-/// What a statement is answered. `Err` has the number of the refusal and the key or position that its text shows, else
-/// 0; `End` is told where a session has no statement left.
-#[derive(Debug, Drop)]
+/// What a statement is answered. `End` is told where a session has no statement left.
+#[derive(Drop)]
 pub enum Reply {
     Ok,
     Count(u64),
     Rows(Rows),
-    Err { number: u32, at: i64 },
+    Err(Refusal),
     End,
 }
 

@@ -9,8 +9,9 @@ ghost use Rattle.isp_plain.specs.Tables.{Table, definition_of};
 use crate::defined::Defined;
 use crate::entries::{Entries, add_all};
 use crate::select::push_selected;
+use crate::sets::last_sets;
 use crate::update::{changes, remove_held, write};
-use crate::{Assign, Condition, Reply, Row, Rows, Schema};
+use crate::{Assign, Condition, Refusal, Reply, Row, Rows, Schema};
 use isp_mbr::Name;
 use std::alloc::{AllocError, Global};
 use std::marker::Model;
@@ -73,7 +74,7 @@ impl PlainTable {
         ensures err { OnErr result (self.new ≡ self.old) }
     {
         match add_all(&mut self.entries, alloc, rows)? {
-            Some(key) => Ok(refused(1062, key)),
+            Some(key) => Ok(Reply::Err(Refusal::DuplicateKey { key })),
             None => Ok(Reply::Count(rows.len() as u64)),
         }
     }
@@ -96,7 +97,24 @@ impl PlainTable {
 
     /// Gives the rows of which the condition holds their new values, or none of them where one would get too large. Want
     /// of memory leaves the table as it was.
+    #[tactic(auto, using(crate::proofs::SetLaws::update_last))]
     pub(crate) fn update(
+        &mut self,
+        alloc: Global,
+        sets: &[Assign],
+        condition: &Condition,
+    ) -> Result<Reply, AllocError>
+        ensures reply { IfOk result (λ reply. reply ≡ (update sets.now condition.now self.old).reply) }
+        ensures table { OnOk result (self.new ≡ (update sets.now condition.now self.old).table) }
+        ensures err { OnErr result (self.new ≡ self.old) }
+    {
+        let kept = last_sets(alloc, sets)?;
+        let reply = self.update_by(alloc, kept.as_slice(), condition)?;
+        Ok(reply)
+    }
+
+    // The same, by all of the sets.
+    fn update_by(
         &mut self,
         alloc: Global,
         sets: &[Assign],
@@ -112,7 +130,7 @@ impl PlainTable {
                 write(&mut self.entries, changed);
                 Ok(Reply::Count(count))
             }
-            None => Ok(refused(9011, 0)),
+            None => Ok(Reply::Err(Refusal::RowTooLarge)),
         }
     }
 
@@ -124,10 +142,4 @@ impl PlainTable {
         let count = remove_held(&mut self.entries, condition);
         Reply::Count(count as u64)
     }
-}
-
-fn refused(number: u32, at: i64) -> Reply
-    ensures { result ≡ Reply.Err number at }
-{
-    Reply::Err { number, at }
 }

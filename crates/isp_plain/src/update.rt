@@ -6,15 +6,15 @@ ghost use Rattle.std.specs.List.Sorted.{IsStrictlySortedBy};
 ghost use Rattle.std.specs.Map.{keys_of, values_of};
 ghost use Rattle.std.specs.Ordering.{int_cmp};
 ghost use Rattle.isp_plain.specs.Conditions.{holds};
-ghost use Rattle.isp_plain.specs.Does.{count_of, outgrows, updated, with_set, with_sets};
+ghost use Rattle.isp_plain.specs.Does.{count_of, outgrows, updated, with_sets};
 ghost use Rattle.isp_plain.specs.Entries.{with_value};
 ghost use Rattle.isp_plain.specs.RowBytes.{row_bytes, row_limit};
 ghost use Rattle.isp_plain.specs.Updating.{changes_of, with_changes};
 
 use crate::condition::holds;
 use crate::entries::{Entries, replace};
-use crate::{Assign, Condition, Row, Schema, Value, Values, row_size};
-use isp_mbr::Duplicate;
+use crate::sets::with_sets;
+use crate::{Assign, Condition, Row, Schema, row_size};
 use std::alloc::{AllocError, Global};
 
 // The most bytes that a row may have.
@@ -22,26 +22,6 @@ const ROW_LIMIT: usize = 1_000;
 
 /// A row that UPDATE writes, and its key.
 pub type Changed = (i64, Row);
-
-// The new value at its place, if there is one.
-fn put(values: &mut Values, at: usize, value: Value)
-    ensures { values.new ≡ slice_set values.old at value }
-{
-    if at < values.len() {
-        values.set(at, value);
-    }
-}
-
-// A copy of the row with all of the new values, of which a later one of one column replaces an earlier one.
-fn with_sets(alloc: Global, sets: &[Assign], row: &Row) -> Result<Row, AllocError>
-    ensures { IfOk result (λ r. r ≡ with_sets sets.now row.now) }
-{
-    let mut values = row.values.copy(alloc)?;
-    for set in sets {
-        put(&mut values, set.column as usize, set.v.copy(alloc)?);
-    }
-    Ok(Row { values })
-}
 
 // Whether the row has more bytes than a row may have.
 fn is_too_large(schema: &Schema, row: &Row) -> bool

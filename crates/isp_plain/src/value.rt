@@ -10,7 +10,7 @@ use std::alloc::{AllocError, Global};
 
 /// What a column holds: whole numbers (`BIGINT`), texts of at most so many bytes (`VARCHAR`), or geometries of SRID 0
 /// (`GEOMETRY`).
-#[derive(Clone, Copy, Debug, PartialEq, Eq)]
+#[derive(Clone, Copy, PartialEq, Eq)]
 pub enum Kind {
     BigInt,
     VarChar(u16),
@@ -18,7 +18,7 @@ pub enum Kind {
 }
 
 /// A column of a table. Only one of geometries may be indexed.
-#[derive(Debug, Drop)]
+#[derive(Drop)]
 pub struct Column {
     pub name: Name,
     pub kind: Kind,
@@ -29,13 +29,13 @@ pub struct Column {
 pub type Columns = Items<Column>;
 
 /// The columns of a table, the key first.
-#[derive(Debug, Drop)]
+#[derive(Drop)]
 pub struct Schema {
     pub columns: Columns,
 }
 
 /// What a row has in one column.
-#[derive(Debug, Drop)]
+#[derive(Drop)]
 pub enum Value {
     Int(i64),
     Text(Bytes),
@@ -46,7 +46,7 @@ pub enum Value {
 pub type Values = Items<Value>;
 
 /// A row of a table. Its first value is its key.
-#[derive(Debug, Drop)]
+#[derive(Drop)]
 pub struct Row {
     pub values: Values,
 }

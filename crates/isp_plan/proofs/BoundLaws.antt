@@ -1,10 +1,11 @@
 -- Chains of checks: what holds of every refusal and of the statement at the end holds of what the chain says.
 use Rattle.std.proofs.Common.{◌≡◌, Result, Ok, Err, refl}
 use Rattle.isp_plain.specs.declared.statement.Statement.{Statement}
-use Rattle.isp_plan.specs.declared.refusal.Refusal.{Refusal}
-use Rattle.isp_plan.specs.Refusals.{◌>>=◌, refused, stated}
+use Rattle.isp_plain.specs.declared.refusal.Refusal.{Refusal}
+use Rattle.isp_plain.specs.declared.statement.Statement.TheVariants.{Refused}
+use Rattle.isp_plan.specs.Refusals.{◌>>=◌, stated}
 
-pub carried : {X : Type 0} (P : Statement → Type 0) → ((r : Refusal) → P (refused r)) → (c : Result X Refusal) (f : X → Result Statement Refusal)
+pub carried : {X : Type 0} (P : Statement → Type 0) → ((r : Refusal) → P (Refused r)) → (c : Result X Refusal) (f : X → Result Statement Refusal)
     → ((x : X) → c ≡ Ok x → P (stated (f x))) → P (stated (c >>= f))
 carried P refusals (Ok x) f h = h x refl
 carried P refusals (Err r) f h = refusals r

@@ -1,6 +1,6 @@
 -- Reading members one after another, as a loop does.
 use Rattle.std.proofs.Common.{◌≡◌, ◌∙◌, List, [], ◌∷◌, ◌++◌, Result, Ok, Err, refl, sym, ap, append_assoc}
-use Rattle.isp_plan.specs.declared.refusal.Refusal.{Refusal}
+use Rattle.isp_plain.specs.declared.refusal.Refusal.{Refusal}
 use Rattle.isp_plan.specs.declared.refusal.Stop.{Stop}
 use Rattle.isp_plan.specs.declared.refusal.Stop.TheVariants.{Refused, Memory}
 use Rattle.isp_plan.specs.Refusals.{◌>>=◌, Gives}

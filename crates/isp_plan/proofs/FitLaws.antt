@@ -21,8 +21,8 @@ use Rattle.isp_sql.specs.declared.parsed.ParsedAtom.{ParsedAtom}
 use Rattle.isp_sql.specs.declared.parsed.ParsedAtom.TheVariants as written
 use Rattle.isp_sql.specs.declared.parsed.ParsedColumn.{ParsedColumn}
 use Rattle.isp_sql.specs.declared.parsed.ParsedSet.{ParsedSet}
-use Rattle.isp_plan.specs.declared.refusal.Refusal.{Refusal}
-use Rattle.isp_plan.specs.declared.refusal.Refusal.TheVariants.{NotAllowedHere, AlreadyBegun, TableExists, OutOfLimits, NoSuchTable, UnknownColumn, KeyCannotBeSet, ColumnCount, OutOfRange, TooLong, WrongType, RowTooLarge}
+use Rattle.isp_plain.specs.declared.refusal.Refusal.{Refusal}
+use Rattle.isp_plain.specs.declared.refusal.Refusal.TheVariants.{NotAllowedHere, AlreadyBegun, TableExists, OutOfLimits, NoSuchTable, UnknownColumn, KeyCannotBeSet, ColumnCount, OutOfRange, TooLong, WrongType, RowTooLarge}
 use Rattle.isp_plan.specs.Binding.{are_columns, are_counted, are_settable, atom_of, begins_again, checked, condition_of, create, delete, insert, is_allowed, is_geometry, is_key, is_other, is_small, is_table, meant, named, named_from, number_named, numbers_from, row_of, rows_of, schema_named, select, set_of, sets_of, shown, update, values_of}
 use Rattle.isp_plan.specs.Creating.{column_limit, is_short, schema_of, table_limit}
 use Rattle.isp_plan.specs.Fitting.{can_hold, can_meet, column_passes, fit_values, fits_atom, fits_set, fits_column, Fits, BoundFits}

@@ -1,24 +1,25 @@
 -- No string of a statement has a line feed, since no token has one.
+use Rattle.isp_plain.specs.Lined.{is_one_line}
 use Rattle.std.proofs.Common.{◌≡◌, ℕ, Bool, true, false, not, ◌==◌, List, [], ◌∷◌, subst, refl, arith, inl, inr, Option, Some, None}
 use Rattle.std.specs.List.{list_all}
 use Rattle.std.specs.Option.{option_and_then}
 use Rattle.std.proofs.lemmas.Bool.{and_parts, and_from}
 use Rattle.std.proofs.lemmas.Bool.Decides.{nat_tests}
-use Rattle.isp_plain.specs.Spelling.{is_one_line}
-use Rattle.isp_sql.specs.Grammar.{Phrase, ◌⨾◌, ◌∣◌, each, empty, enclosed, geometry, list, literal, one, optional, row, set, signed, statement, symbol, word, zero_digit}
+use Rattle.isp_tokens.specs.Phrases.{Phrase, ◌⨾◌, ◌∣◌, each, empty, enclosed, list, one, optional, symbol, word, zero_digit}
+use Rattle.isp_sql.specs.Grammar.{geometry, literal, row, set, signed, statement}
 use Rattle.isp_sql.specs.Reading.{parsed_in, parsed_of}
-use Rattle.isp_sql.specs.Scanning.{tokens_of}
-use Rattle.isp_sql.specs.Tokens.{AreTokens, Spells, is_control}
+use Rattle.isp_tokens.specs.Scanning.{tokens_of}
+use Rattle.isp_tokens.specs.Tokens.{AreTokens, Spells, is_control}
 use Rattle.isp_sql.specs.declared.parsed.Literal.{Literal}
 use Rattle.isp_sql.specs.declared.parsed.Literal.TheVariants as literals
 use Rattle.isp_sql.specs.declared.parsed.Parsed.{Parsed}
 use Rattle.isp_sql.specs.declared.parsed.Parsed.TheVariants as parsed
 use Rattle.isp_sql.specs.declared.parsed.ParsedSet.{ParsedSet}
-use Rattle.isp_sql.specs.declared.token.Symbol.TheVariants.{Open, Close, Comma, Minus}
-use Rattle.isp_sql.specs.declared.token.Token.{Token}
-use Rattle.isp_sql.specs.declared.token.Token.TheVariants as token
+use Rattle.isp_tokens.specs.declared.token.Symbol.TheVariants.{Open, Close, Comma, Minus}
+use Rattle.isp_tokens.specs.declared.token.Token.{Token}
+use Rattle.isp_tokens.specs.declared.token.Token.TheVariants as token
 use Rattle.isp_sql.proofs.SoundForms.{parsed_sound}
-use Rattle.isp_sql.proofs.TokenLaws.{tokens_sound}
+use Rattle.isp_tokens.proofs.TokenLaws.{tokens_sound}
 
 -- ---- tokens
 

@@ -5,8 +5,8 @@ use Rattle.std.specs.List.{list_all}
 use Rattle.std.specs.Option.{is_some}
 use Rattle.std.specs.Str.{bytes_eq}
 use Rattle.isp_mbr.specs.declared.predicate.Test.{Test}
-use Rattle.isp_plain.specs.declared.script.Place.{Place}
-use Rattle.isp_plain.specs.declared.script.Place.TheVariants as place
+use Rattle.isp_serial.specs.declared.script.Place.{Place}
+use Rattle.isp_serial.specs.declared.script.Place.TheVariants as place
 use Rattle.isp_plain.specs.declared.statement.Assign.{Assign}
 use Rattle.isp_plain.specs.declared.statement.Atom.{Atom}
 use Rattle.isp_plain.specs.declared.statement.Atom.TheVariants as atom
@@ -29,8 +29,8 @@ use Rattle.isp_sql.specs.declared.parsed.ParsedAtom.{ParsedAtom}
 use Rattle.isp_sql.specs.declared.parsed.ParsedAtom.TheVariants as written
 use Rattle.isp_sql.specs.declared.parsed.ParsedColumn.{ParsedColumn}
 use Rattle.isp_sql.specs.declared.parsed.ParsedSet.{ParsedSet}
-use Rattle.isp_plan.specs.declared.refusal.Refusal.{Refusal}
-use Rattle.isp_plan.specs.declared.refusal.Refusal.TheVariants.{NotAllowedHere, AlreadyBegun, TableExists, OutOfLimits, NoSuchTable, UnknownColumn, KeyCannotBeSet, ColumnCount, WrongType, RowTooLarge}
+use Rattle.isp_plain.specs.declared.refusal.Refusal.{Refusal}
+use Rattle.isp_plain.specs.declared.refusal.Refusal.TheVariants.{NotAllowedHere, AlreadyBegun, TableExists, OutOfLimits, NoSuchTable, UnknownColumn, KeyCannotBeSet, ColumnCount, WrongType, RowTooLarge}
 use Rattle.isp_plan.specs.Creating.{column_limit, table_limit, is_short, schema_of}
 use Rattle.isp_plan.specs.Literals.{stored, compared, geometry_of}
 use Rattle.isp_plan.specs.Refusals.{◌>>=◌, ensure, known, each, stated}

@@ -9,8 +9,8 @@ use Rattle.isp_plain.specs.declared.value.Schema.{Schema}
 use Rattle.isp_sql.specs.declared.parsed.ParsedColumn.{ParsedColumn}
 use Rattle.isp_sql.specs.declared.parsed.ParsedKind.{ParsedKind}
 use Rattle.isp_sql.specs.declared.parsed.ParsedKind.TheVariants as parsed
-use Rattle.isp_plan.specs.declared.refusal.Refusal.{Refusal}
-use Rattle.isp_plan.specs.declared.refusal.Refusal.TheVariants.{OutOfLimits}
+use Rattle.isp_plain.specs.declared.refusal.Refusal.{Refusal}
+use Rattle.isp_plain.specs.declared.refusal.Refusal.TheVariants.{OutOfLimits}
 use Rattle.isp_plan.specs.Numbers.{value_of}
 use Rattle.isp_plan.specs.Refusals.{◌>>=◌, ensure, each}
 

@@ -2,7 +2,7 @@
 -- can hold, or be compared with.
 use Rattle.std.specs.Prelude.{◌≡◌, ℕ, Bool, true, false, not, ◌&&◌, ◌==◌, nat_le, List, [], ◌∷◌, length, slice_get, Option, Some, None}
 use Rattle.std.specs.List.{list_all}
-use Rattle.isp_plain.specs.declared.script.Place.{Place}
+use Rattle.isp_serial.specs.declared.script.Place.{Place}
 use Rattle.isp_plain.specs.declared.statement.Assign.{Assign}
 use Rattle.isp_plain.specs.declared.statement.Atom.{Atom}
 use Rattle.isp_plain.specs.declared.statement.Atom.TheVariants as atom
@@ -74,7 +74,7 @@ Fits tables (statement.Delete name w) = OfTable tables name (λ schema. list_all
 Fits tables statement.Begin = Unit {0}
 Fits tables statement.Commit = Unit {0}
 Fits tables statement.Rollback = Unit {0}
-Fits tables (statement.Refused number at) = Unit {0}
+Fits tables (statement.Refused refusal) = Unit {0}
 
 -- each statement that is bound fits the tables that it is bound to
 abbrev pub BoundFits : Type 0

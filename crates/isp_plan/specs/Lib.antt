@@ -4,5 +4,4 @@ pub mod Fitting
 pub mod Literals
 pub mod Meaning
 pub mod Numbers
-pub mod Paths
 pub mod Refusals

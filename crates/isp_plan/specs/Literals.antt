@@ -9,8 +9,8 @@ use Rattle.isp_plain.specs.declared.value.Value.{Value}
 use Rattle.isp_plain.specs.declared.value.Value.TheVariants as value
 use Rattle.isp_sql.specs.declared.parsed.Literal.{Literal}
 use Rattle.isp_sql.specs.declared.parsed.Literal.TheVariants as literal
-use Rattle.isp_plan.specs.declared.refusal.Refusal.{Refusal}
-use Rattle.isp_plan.specs.declared.refusal.Refusal.TheVariants.{WrongType, OutOfRange, TooLong, Geometry}
+use Rattle.isp_plain.specs.declared.refusal.Refusal.{Refusal}
+use Rattle.isp_plain.specs.declared.refusal.Refusal.TheVariants.{WrongType, OutOfRange, TooLong, Geometry}
 use Rattle.isp_plan.specs.Numbers.{number_of}
 use Rattle.isp_plan.specs.Refusals.{◌>>=◌, ensure, known}
 

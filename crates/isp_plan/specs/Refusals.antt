@@ -1,12 +1,8 @@
--- Why a statement is refused before any row is looked at, and the statement that says so. The numbers up to 1406 are those
--- of the MySQL 8.0 manual; those from 9001 on are this project's own.
-use Rattle.std.specs.Prelude.{◌≡◌, ℕ, pos, Bool, true, false, List, [], ◌∷◌, Result, Ok, Err, Option, Some, None}
-use Rattle.isp_wkt.specs.declared.cause.WktCause.{WktCause}
-use Rattle.isp_wkt.specs.declared.cause.WktCause.TheVariants.{Truncated, NotWhole, OutOfRange, TooDeep, TooFew, Unclosed, Empty, Trailing, Unknown}
+-- Checks that refuse a statement before any row is looked at, one after another, and the statement that says so.
+use Rattle.std.specs.Prelude.{◌≡◌, Bool, true, false, List, [], ◌∷◌, Result, Ok, Err, Option, Some, None}
 use Rattle.isp_plain.specs.declared.statement.Statement.{Statement}
 use Rattle.isp_plain.specs.declared.statement.Statement.TheVariants.{Refused}
-use Rattle.isp_plan.specs.declared.refusal.Refusal.{Refusal}
-use Rattle.isp_plan.specs.declared.refusal.Refusal.TheVariants as refusal
+use Rattle.isp_plain.specs.declared.refusal.Refusal.{Refusal}
 use Rattle.isp_plan.specs.declared.refusal.Stop.{Stop}
 use Rattle.isp_plan.specs.declared.refusal.Stop.TheVariants as stop
 
@@ -43,45 +39,7 @@ Gives (Ok x) meant = meant ≡ Ok x
 Gives (Err (stop.Refused r)) meant = meant ≡ Err r
 Gives (Err stop.Memory) meant = Unit {0}
 
--- ---- numbers
-
--- the number of a fault in a geometry's text
-abbrev pub cause_number : WktCause → ℕ
-cause_number NotWhole = 9001
-cause_number OutOfRange = 9002
-cause_number Unclosed = 9003
-cause_number TooFew = 9004
-cause_number Empty = 9005
-cause_number Unknown = 9006
-cause_number Trailing = 9007
-cause_number Truncated = 9008
-cause_number TooDeep = 9009
-
-abbrev pub number : Refusal → ℕ
-number refusal.Syntax = 1064
-number refusal.NotAllowedHere = 9010
-number refusal.AlreadyBegun = 9015
-number refusal.TableExists = 1050
-number refusal.OutOfLimits = 9013
-number refusal.NoSuchTable = 1146
-number refusal.UnknownColumn = 1054
-number refusal.KeyCannotBeSet = 9016
-number refusal.ColumnCount = 1136
-number refusal.WrongType = 9014
-number refusal.OutOfRange = 1264
-number refusal.TooLong = 1406
-number (refusal.Geometry cause at) = cause_number cause
-number refusal.RowTooLarge = 9011
-
--- the place that the refusal tells: in a geometry's text, from 0
-abbrev pub place : Refusal → ℕ
-place (refusal.Geometry cause at) = at
-place _ = 0
-
-abbrev pub refused : Refusal → Statement
-refused r = Refused (number r) (pos (place r))
-
 -- the statement, or the refusal as one
 abbrev pub stated : Result Statement Refusal → Statement
 stated (Ok s) = s
-stated (Err r) = refused r
+stated (Err r) = Refused r

@@ -7,18 +7,19 @@ ghost use Rattle.std.specs.Result.{result_map_both};
 ghost use Rattle.isp_plain.specs.Values.{box_of};
 ghost use Rattle.isp_plan.specs.Binding.{are_columns, are_counted, are_settable, atom_of, begins_again, bound, box_test, checked, column_name, comparison, condition_of, create, delete, insert, is_allowed, is_column, is_geometry, is_key, is_other, is_small, is_table, meant, number_named, row_of, rows_of, schema_named, select, set_of, sets_of, shown, update, values_of};
 ghost use Rattle.isp_plan.specs.Refusals.{Gives, each, known};
-ghost use Rattle.isp_plan.specs.declared.refusal.Refusal.TheVariants.{NoSuchTable};
+ghost use Rattle.isp_plain.specs.declared.refusal.Refusal.TheVariants.{NoSuchTable};
 
 use crate::columns::{is_column, is_key, known, numbers};
 use crate::creating::{is_short, schema_of};
 use crate::each::{Bound, each};
 use crate::literal::{compared, geometry_of, stored};
-use crate::refusal::{Refusal, Stop, ensure, refused};
+use crate::refusal::{Stop, ensure};
 use isp_mbr::{Bytes, Duplicate, Name, Predicate, Test};
 use isp_plain::{
-    Assign, Atom, Column, Condition, Defined, Indices, Kind, Op, Place, Row, Rows, Schema, Sets,
+    Assign, Atom, Column, Condition, Defined, Indices, Kind, Op, Refusal, Row, Rows, Schema, Sets,
     Statement, Values, box_of, row_size,
 };
+use isp_serial::Place;
 use isp_sql::{Literal, Literals, Names, Parsed, ParsedAtom, ParsedColumn, ParsedSet};
 use std::alloc::{AllocError, Global};
 
@@ -404,7 +405,7 @@ pub fn bind<T: Defined>(
 {
     match checked(alloc, tables, p, place) {
         Ok(statement) => Ok(statement),
-        Err(Stop::Refused(refusal)) => Ok(refused(refusal)),
+        Err(Stop::Refused(refusal)) => Ok(Statement::Refused(refusal)),
         Err(Stop::Memory) => Err(AllocError),
     }
 }

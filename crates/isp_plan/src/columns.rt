@@ -3,11 +3,11 @@
 ghost use Rattle.std.specs.Prelude.{◌≡◌, ◌≤◌, Ok, length, take};
 ghost use Rattle.isp_plan.specs.Binding.{is_column, is_key, named, named_from, numbers_from};
 ghost use Rattle.isp_plan.specs.Refusals.{Gives, known};
-ghost use Rattle.isp_plan.specs.declared.refusal.Refusal.TheVariants.{UnknownColumn};
+ghost use Rattle.isp_plain.specs.declared.refusal.Refusal.TheVariants.{UnknownColumn};
 
-use crate::refusal::{Refusal, Stop};
+use crate::refusal::Stop;
 use isp_mbr::Name;
-use isp_plain::{Column, Indices, Kind};
+use isp_plain::{Column, Indices, Kind, Refusal};
 use std::alloc::Global;
 
 // A table has no more columns.

@@ -6,9 +6,9 @@ ghost use Rattle.isp_plan.specs.Numbers.{value_of};
 ghost use Rattle.isp_plan.specs.Refusals.{Gives, each};
 
 use crate::number::value_of;
-use crate::refusal::{Refusal, Stop, ensure};
+use crate::refusal::{Stop, ensure};
 use isp_mbr::{Duplicate, Name};
-use isp_plain::{Column, Columns, Kind, Schema};
+use isp_plain::{Column, Columns, Kind, Refusal, Schema};
 use isp_sql::{ParsedColumn, ParsedKind};
 use std::alloc::{AllocError, Global};
 

@@ -2,7 +2,7 @@
 
 ghost use Rattle.std.specs.Prelude.{◌≡◌, List, Result};
 ghost use Rattle.isp_plan.specs.Refusals.{Gives, each};
-ghost use Rattle.isp_plan.specs.declared.refusal.Refusal.{Refusal};
+ghost use Rattle.isp_plain.specs.declared.refusal.Refusal.{Refusal};
 ghost use Rattle.isp_plain.specs.declared.value.Column.{Column};
 
 use crate::refusal::Stop;

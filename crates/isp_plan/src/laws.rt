@@ -1,6 +1,6 @@
 //! What holds of statements that are bound, and of the whole language.
 
-ghost use Rattle.isp_plain.specs.Alone.{IsFaithful};
+ghost use Rattle.isp_serial.specs.Alone.{IsFaithful};
 ghost use Rattle.isp_plan.specs.Fitting.{BoundFits};
 ghost use Rattle.isp_plan.specs.Meaning.{whole};
 

@@ -6,10 +6,10 @@ ghost use Rattle.isp_plan.specs.Literals.{compared, geo_of, geometry_of, int_of,
 ghost use Rattle.isp_plan.specs.Refusals.{Gives};
 
 use crate::number::number_of;
-use crate::refusal::{Refusal, Stop, ensure};
+use crate::refusal::{Stop, ensure};
 use isp_geom::Geometry;
 use isp_mbr::{Bytes, Duplicate};
-use isp_plain::{Kind, Value};
+use isp_plain::{Kind, Refusal, Value};
 use isp_sql::Literal;
 use isp_wkt::{WktError, read};
 use std::alloc::Global;

@@ -4,8 +4,8 @@ ghost use Rattle.std.specs.Prelude.{◌≡◌, IfOk, map};
 ghost use Rattle.isp_plan.specs.Meaning.{meaning};
 
 use crate::binder::bind;
-use crate::refusal::{Refusal, refused};
-use isp_plain::{Defined, Place, Statement};
+use isp_plain::{Defined, Refusal, Statement};
+use isp_serial::Place;
 use isp_sql::{SqlError, parse};
 use std::alloc::{AllocError, Global};
 
@@ -22,7 +22,7 @@ pub fn meaning_of<T: Defined>(
 {
     match parse(alloc, text) {
         Ok(p) => bind(alloc, tables, &p, place),
-        Err(SqlError::Syntax) => Ok(refused(Refusal::Syntax)),
+        Err(SqlError::Syntax) => Ok(Statement::Refused(Refusal::Syntax)),
         Err(SqlError::OutOfMemory) => Err(AllocError),
     }
 }

@@ -3,7 +3,7 @@ use Rattle.std.proofs.Common.{◌≡◌, ◌∙◌, ◌+◌, ◌≤◌, ℕ, ap,
 use Rattle.std.specs.Prelude.{IfSome, is_some}
 use Rattle.std.proofs.lemmas.List.{take-append-le}
 use Rattle.isp_plain.specs.declared.statement.Statement.{Statement}
-use Rattle.isp_plain.specs.Alone.{State, changed}
+use Rattle.isp_serial.specs.Alone.{State, changed}
 use Rattle.isp_plain.specs.Does.{does}
 use Rattle.isp_plain.specs.Tables.{Table}
 use Rattle.isp_run.specs.History.{committed_of, tables_after}

@@ -1,3 +1,4 @@
 mod HistoryLaws
 pub mod RunLaws
 pub mod SqlLaws
+pub mod TellLaws

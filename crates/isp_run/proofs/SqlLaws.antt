@@ -1,5 +1,5 @@
 -- What of the language the theorem of serial answers asks.
-use Rattle.isp_plain.specs.Alone.{IsFaithful}
+use Rattle.isp_serial.specs.Alone.{IsFaithful}
 use Rattle.isp_plan.proofs.FaithfulLaws.{whole_is_faithful}
 use Rattle.isp_run.specs.Sql.{sql}
 

@@ -1,7 +1,7 @@
 -- A run on tables in memory that remembers the changes which led to its tables, so that a transaction can be given up.
 use Rattle.std.specs.Prelude.{◌≡◌, ◌≤◌, ℕ, List, [], ◌∷◌, length, take, IfSome, is_some, Option, Some, None}
 use Rattle.isp_plain.specs.declared.statement.Statement.{Statement}
-use Rattle.isp_plain.specs.Alone.{State}
+use Rattle.isp_serial.specs.Alone.{State}
 use Rattle.isp_plain.specs.Does.{does}
 use Rattle.isp_plain.specs.Tables.{Table}
 use Rattle.isp_run.specs.declared.history.History.TheInside.{Inside}

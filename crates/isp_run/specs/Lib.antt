@@ -4,4 +4,5 @@ pub mod History
 pub mod Ran
 pub mod Reading
 pub mod Sql
+pub mod Telling
 pub mod Words

@@ -1,29 +1,46 @@
--- What a run that was done has printed: the lines of answers, and nothing else. They fit the script, and their
--- transactions, done again one by one on plain tables, from none, give these answers.
-use Rattle.std.specs.Prelude.{◌≡◌, ℕ, List, [], ◌++◌, All, Option, Some}
+-- What a run has printed: where it was done the lines of answers, and nothing else. They fit the script, and their
+-- transactions, done again one by one on plain tables, from none, give these answers. Where it ended before its end, the
+-- first bytes of such lines, and nothing else.
+use Rattle.std.specs.Prelude.{◌≡◌, ◌⊎◌, ℕ, ◌+◌, ◌<◌, ◌^◌, List, [], ◌++◌, length, All}
 use Rattle.std.specs.List.{flat_map}
-use Rattle.isp_plain.specs.declared.script.Script.{Script}
-use Rattle.isp_plain.specs.Alone.{IsPlain}
-use Rattle.isp_plain.specs.Answers.{Answer}
-use Rattle.isp_plain.specs.Serial.{Serial}
-use Rattle.isp_plain.specs.Spelling.{line_of}
+use Rattle.isp_serial.specs.declared.script.Script.{Script}
+use Rattle.isp_serial.specs.Alone.{AreSmall, IsPlain}
+use Rattle.isp_serial.specs.Answers.{Answer}
+use Rattle.isp_serial.specs.Serial.{Serial}
+use Rattle.isp_serial.specs.Spelling.{line_of}
 use Rattle.isp_plain.specs.Tables.{Table}
+use Rattle.isp_disk.specs.Outside.{PrintsPart}
 use Rattle.isp_script.specs.Grammar.{IsScript}
 use Rattle.isp_run.specs.Sql.{sql}
 use Rattle.isp_run.specs.declared.status.Status.{Status}
 use Rattle.isp_run.specs.declared.status.Status.TheVariants.{Done, Usage, BadScript, ReadFault, PrintFault, OutOfMemory}
 
 -- what was printed before, and now, with the script that was run
-pub record Ran (script : Script) (before : List ℕ) (now : Option (List ℕ)) : Type 0 where
+pub record Ran (script : Script) (before now : List ℕ) : Type 0 where
   pub answers : List Answer
-  pub told : now ≡ Some (before ++ flat_map line_of answers)
+  pub told : now ≡ before ++ flat_map line_of answers
   pub plain : All IsPlain answers
   pub after : List Table
   pub serial : Serial sql script [] answers after
 
 -- the same of the script that the bytes are
-abbrev pub RanOf : List ℕ → List ℕ → Option (List ℕ) → Type 0
+abbrev pub RanOf : List ℕ → List ℕ → List ℕ → Type 0
 RanOf bytes before now = (script : Script) × IsScript bytes script × Ran script before now
+
+-- the numbers of the script's answers fit into 64 bits
+abbrev pub IsSmall : Script → Type 0
+IsSmall script = (length script.setup + 1 < 2 ^ 64) × AreSmall script.sessions
+
+-- a front of what the script's run prints that is done, by bytes
+pub record Front (script : Script) (before now : List ℕ) : Type 0 where
+  pub lines : List ℕ
+  pub whole : Ran script before (before ++ lines)
+  pub part : PrintsPart before lines now
+
+-- whatever the status: nothing was printed; or the source was read to its end, its bytes are a script, and such a front
+-- was printed
+abbrev pub FrontOf : List ℕ → List ℕ → List ℕ → List ℕ → Type 0
+FrontOf bytes rest before now = (now ≡ before) ⊎ ((rest ≡ []) × ((script : Script) × IsScript bytes script × Front script before now))
 
 -- the script was read and is in the grammar
 abbrev pub IsRead : Status → Type 0

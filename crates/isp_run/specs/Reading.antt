@@ -1,6 +1,6 @@
 -- What the bytes of a source were found to be.
 use Rattle.std.specs.Prelude.{ℕ, List}
-use Rattle.isp_plain.specs.declared.script.Script.{Script as ScriptOf}
+use Rattle.isp_serial.specs.declared.script.Script.{Script as ScriptOf}
 use Rattle.isp_script.specs.BadLines.{IsBadLine}
 use Rattle.isp_script.specs.Grammar.{IsScript}
 use Rattle.isp_run.specs.declared.read.Found.{Found}

@@ -1,15 +1,16 @@
 //! A run on tables in memory, with the changes that led to them.
 
 ghost use Rattle.std.specs.Prelude.{◌≡◌, [], IfOk, OnOk, OnErr};
-ghost use Rattle.isp_plain.specs.Alone.{after_statement, after_text, changed, rolled_back, settled};
+ghost use Rattle.isp_serial.specs.Alone.{after_statement, after_text, changed, rolled_back, settled};
 ghost use Rattle.isp_plain.specs.Does.{does};
-ghost use Rattle.isp_plain.specs.Serial.{done, place_at};
+ghost use Rattle.isp_serial.specs.Serial.{done, place_at};
 ghost use Rattle.isp_run.specs.History.{tables_after};
 ghost use Rattle.isp_run.specs.Sql.{sql};
 
 use crate::statement::statement_of;
 use isp_mbr::Bytes;
-use isp_plain::{Place, Plain, Reply, Statement};
+use isp_plain::{Plain, Reply, Statement};
+use isp_serial::Place;
 use std::alloc::{AllocError, Global};
 use std::marker::Model;
 
@@ -26,7 +27,7 @@ pub struct History {
 
 impl Model for History {
     ghost use Rattle.isp_geom.specs.contracts.geometry.Geometry as e;
-    ghost use Rattle.isp_plain.specs.Alone.{State};
+    ghost use Rattle.isp_serial.specs.Alone.{State};
     ghost use Rattle.std.specs.Coded.{codes};
 
     ghost Value = { State };
@@ -106,7 +107,7 @@ impl History {
                 self.roll_back()?;
                 Ok(Reply::Ok)
             }
-            Statement::Select { .. } | Statement::Refused { .. } => self.read(&statement),
+            Statement::Select { .. } | Statement::Refused(_) => self.read(&statement),
             Statement::Create { .. }
             | Statement::Insert { .. }
             | Statement::Update { .. }

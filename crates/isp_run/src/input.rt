@@ -1,7 +1,7 @@
 //! The script's bytes.
 
-ghost use Rattle.std.specs.Prelude.{◌-◌, ◌≡◌, ◌<◌, ◌≤◌, ◌++◌, [], ℕ, true, false, length, IfOk, IfSome, MatchBool, Some, vec_len};
-ghost use Rattle.isp_disk.specs.Outside.{Gives, told_ahead};
+ghost use Rattle.std.specs.Prelude.{◌-◌, ◌≡◌, ◌<◌, ◌≤◌, ◌++◌, [], ℕ, true, false, length, IfOk, MatchBool, vec_len};
+ghost use Rattle.isp_disk.specs.Outside.{Gives};
 ghost use Rattle.isp_run.specs.Causes.{HasStops, Takes};
 
 use crate::stop::Stop;
@@ -16,10 +16,10 @@ const PIECE_BYTES: usize = 4_096;
 
 /// All bytes of the source, to its end, or the first 16,777,217 of them.
 pub fn read_bytes<S: Source>(alloc: Global, source: &mut S) -> Result<Vec<u8>, Stop>
-    ensures bytes { IfOk result (λ bytes. S.left source.old ≡ told_ahead bytes.items (S.left source.new)) }
-    ensures end { IfOk result (λ bytes. length bytes.items < 16777217 → IfSome (S.left source.new) (λ rest. rest ≡ [])) }
+    ensures bytes { S.tells → IfOk result (λ bytes. S.left source.old ≡ bytes.items ++ S.left source.new) }
+    ensures end { S.tells → IfOk result (λ bytes. length bytes.items < 16777217 → S.left source.new ≡ []) }
     ensures most { IfOk result (λ bytes. length bytes.items ≤ 16777217) }
-    ensures taken { Takes 16777217 (S.left source.old) (S.left source.new) }
+    ensures taken { S.tells → Takes 16777217 (S.left source.old) (S.left source.new) }
     ensures cause { HasStops (S.faults source.old) (S.faults source.new) result }
 {
     let mut bytes = Vec::new(alloc);
@@ -39,10 +39,11 @@ fn read_piece<S: Source>(
     piece: &mut [u8; PIECE_BYTES],
 ) -> Result<bool, Stop>
     requires { length bytes.old.items < 16777217 }
-    ensures bytes { IfOk result (λ _. told_ahead bytes.old.items (S.left source.old) ≡ told_ahead bytes.new.items (S.left source.new)) }
-    ensures end { IfOk result (λ is_end. MatchBool is_end (IfSome (S.left source.new) (λ rest. rest ≡ [])) (length bytes.old.items < length bytes.new.items)) }
+    ensures bytes { S.tells → IfOk result (λ _. bytes.old.items ++ S.left source.old ≡ bytes.new.items ++ S.left source.new) }
+    ensures end { S.tells → IfOk result (λ is_end. is_end ≡ true → S.left source.new ≡ []) }
+    ensures more { IfOk result (λ is_end. is_end ≡ false → length bytes.old.items < length bytes.new.items) }
     ensures most { IfOk result (λ _. length bytes.new.items ≤ 16777217) }
-    ensures taken { Takes (16777217 - length bytes.old.items) (S.left source.old) (S.left source.new) }
+    ensures taken { S.tells → Takes (16777217 - length bytes.old.items) (S.left source.old) (S.left source.new) }
     ensures cause { HasStops (S.faults source.old) (S.faults source.new) result }
 {
     let room = (MOST_BYTES - bytes.len()).min(PIECE_BYTES);
@@ -53,8 +54,9 @@ fn read_piece<S: Source>(
 
 fn next<S: Source>(source: &mut S, piece: &mut [u8]) -> Result<usize, Stop>
     requires { 0 < length piece.old }
-    ensures given { IfOk result (λ count. Gives (S.left source.old) count piece.new (S.left source.new)) }
-    ensures taken { Takes (length piece.old) (S.left source.old) (S.left source.new) }
+    ensures few { IfOk result (λ count. count ≤ length piece.new) }
+    ensures given { S.tells → IfOk result (λ count. Gives (S.left source.old) count piece.new (S.left source.new)) }
+    ensures taken { S.tells → Takes (length piece.old) (S.left source.old) (S.left source.new) }
     ensures cause { HasStops (S.faults source.old) (S.faults source.new) result }
 {
     match source.next(piece) {

@@ -1,11 +1,11 @@
 //! The top call: the words and the script are read, the script is run, and its answers are printed.
 #![tactic(auto)]
 
-ghost use Rattle.std.specs.Prelude.{◌≡◌, ◌↔◌, ℕ, false, true, List, [], Some, IfSome, map, string_bytes};
+ghost use Rattle.std.specs.Prelude.{◌≡◌, ◌↔◌, ℕ, false, true, [], map, string_bytes};
 ghost use Rattle.isp_disk.specs.Outside.{Rose};
 ghost use Rattle.isp_script.specs.BadLines.{IsBadLine};
-ghost use Rattle.isp_run.specs.Causes.{KeepsDisk, Takes};
-ghost use Rattle.isp_run.specs.Ran.{IsDue, IsQuiet, IsRead, RanOf};
+ghost use Rattle.isp_run.specs.Causes.{CountsAt, KeepsDisk, Takes};
+ghost use Rattle.isp_run.specs.Ran.{FrontOf, IsDue, IsQuiet, IsRead, RanOf};
 ghost use Rattle.isp_run.specs.Reading.{HasScript};
 ghost use Rattle.isp_run.specs.Words.{is_run};
 
@@ -37,30 +37,38 @@ pub fn run<S: Source, W: World>(
     script: &mut S,
     world: W,
 ) -> (Status, W)
-    // The words alone say whether it is `Usage`.
+    // The words alone say whether it is `Usage`, and then the source is left alone.
     ensures usage { (result.0 ≡ Status.Usage) ↔ (is_run (map string_bytes words.now) ≡ false) }
+    ensures untouched { result.0 ≡ Status.Usage → script.new ≡ script.old }
 
     // The headline: what was printed is the lines of answers to the script, and these are serial.
-    ensures serial { result.0 ≡ Status.Done → IfSome (S.left script.old) (λ bytes. IfSome (W.printed world) (λ before. RanOf bytes before (W.printed result.1))) }
-    ensures end { result.0 ≡ Status.Done → IfSome (S.left script.new) (λ rest. rest ≡ []) }
+    ensures serial { result.0 ≡ Status.Done → S.tells → W.tells →
+        RanOf (S.left script.old) (W.printed world) (W.printed result.1) }
+    ensures end { result.0 ≡ Status.Done → S.tells → S.left script.new ≡ [] }
 
-    ensures taken { Takes 16777217 (S.left script.old) (S.left script.new) }
-
-    // Each other status has its cause.
-    ensures bad { (line : ℕ) → result.0 ≡ Status.BadScript line → IfSome (S.left script.old) (λ bytes. IsBadLine bytes line) }
-    ensures good { IsRead result.0 → IfSome (S.left script.old) (λ bytes. HasScript bytes) }
-    ensures read_fault { result.0 ≡ Status.ReadFault → Rose (S.faults script.old) (S.faults script.new) }
-    ensures print_fault { result.0 ≡ Status.PrintFault → Rose (W.print_faults world) (W.print_faults result.1) }
-
-    // Good words and a good script, with no fault of the source or the world, are done, or find no memory.
-    ensures complete { (bytes : List ℕ) → S.left script.old ≡ Some bytes → HasScript bytes → is_run (map string_bytes words.now) ≡ true
-        → ¬ Rose (S.faults script.old) (S.faults script.new) → ¬ Rose (W.print_faults world) (W.print_faults result.1) → IsDue result.0 }
-
-    // Nothing is printed before the script was read.
+    // Whatever the status, what was printed is a front of such lines, and nothing where no script was read.
+    ensures front { S.tells → W.tells →
+        FrontOf (S.left script.old) (S.left script.new) (W.printed world) (W.printed result.1) }
     ensures quiet { IsQuiet result.0 → W.printed result.1 ≡ W.printed world }
 
+    ensures taken { S.tells → Takes 16777217 (S.left script.old) (S.left script.new) }
+
+    // Each other status has its cause.
+    ensures bad { (line : ℕ) → result.0 ≡ Status.BadScript line → S.tells → IsBadLine (S.left script.old) line }
+    ensures good { IsRead result.0 → S.tells → HasScript (S.left script.old) }
+    ensures read_fault { CountsAt Status.ReadFault result.0 (S.faults script.old) (S.faults script.new) }
+    ensures print_fault { CountsAt Status.PrintFault result.0
+        (W.print_faults world) (W.print_faults result.1) }
+
+    // Good words and a good script, with no fault of the source or the world, are done, or find no memory.
+    ensures complete { S.tells → HasScript (S.left script.old) →
+        is_run (map string_bytes words.now) ≡ true →
+        ¬ Rose (S.faults script.old) (S.faults script.new) →
+        ¬ Rose (W.print_faults world) (W.print_faults result.1) → IsDue result.0 }
+
     // The disk is left alone: no table stands on it yet.
-    ensures disk { KeepsDisk (W.image world) (W.disk_faults world) (W.image result.1) (W.disk_faults result.1) }
+    ensures disk { KeepsDisk (W.image world) (W.disk_faults world)
+        (W.image result.1) (W.disk_faults result.1) }
 {
     let mut world = world;
     if !is_run(words) {
@@ -77,6 +85,3 @@ pub fn run<S: Source, W: World>(
         Err(Stop::Memory) => (Status::OutOfMemory, world),
     }
 }
-
-#[cfg(test)]
-mod tests;

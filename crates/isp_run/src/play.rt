@@ -2,18 +2,19 @@
 
 ghost use Rattle.std.specs.Prelude.{◌≡◌, ◌+◌, ◌<◌, ◌^◌, false, length, OnOk, IfOk};
 ghost use Rattle.std.specs.List.{flat_map};
-ghost use Rattle.isp_disk.specs.Outside.{told_behind};
-ghost use Rattle.isp_plain.specs.Alone.{after_session, after_text, after_texts, answer_to, answer_with, answers_to, run_answers, session_answers, sessions_answers, turn_of, AreSmall};
-ghost use Rattle.isp_plain.specs.Spelling.{line_of};
-ghost use Rattle.isp_plain.specs.Texts.{reply_text};
-ghost use Rattle.isp_run.specs.Causes.{HasStops, KeepsDisk};
+ghost use Rattle.isp_serial.specs.Alone.{after_session, after_text, after_texts, rolled_back, answer_to, answer_with, answers_to, run_answers, session_answers, sessions_answers, turn_of, AreSmall};
+ghost use Rattle.isp_serial.specs.Spelling.{line_of};
+ghost use Rattle.isp_plain.specs.Texts.{end_text, reply_text};
+ghost use Rattle.isp_run.specs.Ran.{IsSmall};
 ghost use Rattle.isp_run.specs.Sql.{sql};
+ghost use Rattle.isp_run.specs.Telling.{Tells};
 
 use crate::history::History;
 use crate::stop::Stop;
 use isp_disk::World;
 use isp_mbr::Bytes;
-use isp_plain::{Reply, Script, Session};
+use isp_plain::Reply;
+use isp_serial::{Script, Session};
 use isp_text::answer_line;
 use std::alloc::{AllocError, Global};
 
@@ -25,9 +26,7 @@ fn turn_of(session: u32, number: u64) -> u64
 }
 
 fn print<W: World>(world: &mut W, bytes: &[u8]) -> Result<(), Stop>
-    ensures told { OnOk result (W.printed world.new ≡ told_behind (W.printed world.old) bytes.now) }
-    ensures cause { HasStops (W.print_faults world.old) (W.print_faults world.new) result }
-    ensures disk { KeepsDisk (W.image world.old) (W.disk_faults world.old) (W.image world.new) (W.disk_faults world.new) }
+    ensures tells { Tells W.World bytes.now world.old world.new result }
 {
     match world.print(bytes) {
         Ok(()) => Ok(()),
@@ -43,9 +42,9 @@ fn print_answer<W: World>(
     number: u64,
     reply: &Reply,
 ) -> Result<(), Stop>
-    ensures told { OnOk result (W.printed world.new ≡ told_behind (W.printed world.old) (line_of (answer_with session number (reply_text reply.now)))) }
-    ensures cause { HasStops (W.print_faults world.old) (W.print_faults world.new) result }
-    ensures disk { KeepsDisk (W.image world.old) (W.disk_faults world.old) (W.image world.new) (W.disk_faults world.new) }
+    ensures tells { Tells W.World
+        (line_of (answer_with session number (reply_text reply.now)))
+        world.old world.new result }
 {
     let line = answer_line(
         alloc,
@@ -66,10 +65,10 @@ fn answer<W: World>(
     number: u64,
     text: &Bytes,
 ) -> Result<(), Stop>
-    ensures told { OnOk result (W.printed world.new ≡ told_behind (W.printed world.old) (line_of (answer_to sql session number text.now history.old))) }
+    ensures tells { Tells W.World
+        (line_of (answer_to sql session number text.now history.old))
+        world.old world.new result }
     ensures state { OnOk result (history.new ≡ after_text sql session text.now history.old) }
-    ensures cause { HasStops (W.print_faults world.old) (W.print_faults world.new) result }
-    ensures disk { KeepsDisk (W.image world.old) (W.disk_faults world.old) (W.image world.new) (W.disk_faults world.new) }
 {
     let reply = history.answer(session, text)?;
     print_answer(alloc, world, session, number, &reply)?;
@@ -84,10 +83,10 @@ fn answer_texts<W: World>(
     session: u32,
     texts: &[Bytes],
 ) -> Result<(), Stop>
-    ensures told { OnOk result (W.printed world.new ≡ told_behind (W.printed world.old) (flat_map line_of (answers_to sql session 1 texts.now history.old))) }
+    ensures tells { Tells W.World
+        (flat_map line_of (answers_to sql session 1 texts.now history.old))
+        world.old world.new result }
     ensures state { OnOk result (history.new ≡ after_texts sql session texts.now history.old) }
-    ensures cause { HasStops (W.print_faults world.old) (W.print_faults world.new) result }
-    ensures disk { KeepsDisk (W.image world.old) (W.disk_faults world.old) (W.image world.new) (W.disk_faults world.new) }
 {
     for (i, text) in texts.iter().enumerate() {
         answer(alloc, history, world, session, i as u64 + 1, text)?;
@@ -103,6 +102,24 @@ fn end_number(texts: &[Bytes]) -> u64
     texts.len() as u64 + 1
 }
 
+// Gives up what is open, and prints the line of the session's end.
+fn end_session<W: World>(
+    alloc: Global,
+    history: &mut History,
+    world: &mut W,
+    session: u32,
+    number: u64,
+) -> Result<(), Stop>
+    ensures tells { Tells W.World
+        (line_of (answer_with session number end_text))
+        world.old world.new result }
+    ensures state { OnOk result (history.new ≡ rolled_back history.old) }
+{
+    history.roll_back()?;
+    print_answer(alloc, world, session, number, &Reply::End)?;
+    Ok(())
+}
+
 // Answers a session, and tells its end.
 fn answer_session<W: World>(
     alloc: Global,
@@ -110,17 +127,15 @@ fn answer_session<W: World>(
     world: &mut W,
     session: &Session,
 ) -> Result<(), Stop>
-    ensures told { OnOk result (W.printed world.new ≡ told_behind (W.printed world.old) (flat_map line_of (session_answers sql session.now history.old))) }
+    ensures tells { Tells W.World
+        (flat_map line_of (session_answers sql session.now history.old))
+        world.old world.new result }
     ensures state { OnOk result (history.new ≡ after_session sql session.now history.old) }
-    ensures small { OnOk result ((session.now.number < 2 ^ 64) × (length session.now.texts + 1 < 2 ^ 64)) }
-    ensures cause { HasStops (W.print_faults world.old) (W.print_faults world.new) result }
-    ensures disk { KeepsDisk (W.image world.old) (W.disk_faults world.old) (W.image world.new) (W.disk_faults world.new) }
 {
     let number = session.number;
     let texts = session.texts.as_slice();
     answer_texts(alloc, history, world, number, texts)?;
-    history.roll_back()?;
-    print_answer(alloc, world, number, end_number(texts), &Reply::End)?;
+    end_session(alloc, history, world, number, end_number(texts))?;
     Ok(())
 }
 
@@ -130,10 +145,9 @@ fn answer_sessions<W: World>(
     world: &mut W,
     sessions: &[Session],
 ) -> Result<(), Stop>
-    ensures told { OnOk result (W.printed world.new ≡ told_behind (W.printed world.old) (flat_map line_of (sessions_answers sql sessions.now history.old))) }
-    ensures small { OnOk result (AreSmall sessions.now) }
-    ensures cause { HasStops (W.print_faults world.old) (W.print_faults world.new) result }
-    ensures disk { KeepsDisk (W.image world.old) (W.disk_faults world.old) (W.image world.new) (W.disk_faults world.new) }
+    ensures tells { Tells W.World
+        (flat_map line_of (sessions_answers sql sessions.now history.old))
+        world.old world.new result }
 {
     for session in sessions {
         answer_session(alloc, history, world, session)?;
@@ -141,16 +155,33 @@ fn answer_sessions<W: World>(
     Ok(())
 }
 
+// A session's number and those of its answers fit into 64 bits.
+fn count_answers(session: &Session)
+    ensures { (session.now.number < 2 ^ 64) × (length session.now.texts + 1 < 2 ^ 64) }
+{
+    let _number = session.number;
+    let _end = end_number(session.texts.as_slice());
+}
+
+fn count_sessions(sessions: &[Session])
+    ensures { AreSmall sessions.now }
+{
+    for session in sessions {
+        count_answers(session);
+    }
+}
+
 /// Answers the setup and then the sessions, from no tables, and prints each answer's line.
 pub fn play<W: World>(alloc: Global, script: &Script, world: &mut W) -> Result<(), Stop>
-    ensures told { OnOk result (W.printed world.new ≡ told_behind (W.printed world.old) (flat_map line_of (run_answers sql script.now))) }
-    ensures small { OnOk result ((length script.now.setup + 1 < 2 ^ 64) × AreSmall script.now.sessions) }
-    ensures cause { HasStops (W.print_faults world.old) (W.print_faults world.new) result }
-    ensures disk { KeepsDisk (W.image world.old) (W.disk_faults world.old) (W.image world.new) (W.disk_faults world.new) }
+    ensures tells { Tells W.World
+        (flat_map line_of (run_answers sql script.now))
+        world.old world.new result }
+    ensures small { IsSmall script.now }
 {
     let mut history = History::new(alloc);
     let setup = script.setup.as_slice();
     let _end = end_number(setup);
+    count_sessions(script.sessions.as_slice());
     answer_texts(alloc, &mut history, world, 0, setup)?;
     answer_sessions(alloc, &mut history, world, script.sessions.as_slice())?;
     Ok(())

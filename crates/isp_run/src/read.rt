@@ -1,19 +1,19 @@
 //! The script of a source.
 
-ghost use Rattle.std.specs.Prelude.{◌≡◌, [], IfOk, IfSome};
+ghost use Rattle.std.specs.Prelude.{◌≡◌, [], IfOk};
 ghost use Rattle.isp_run.specs.Causes.{HasStops, Takes};
 ghost use Rattle.isp_run.specs.Reading.{IsFound, IsGood};
 
 use crate::input::read_bytes;
 use crate::stop::Stop;
 use isp_disk::Source;
-use isp_plain::Script;
 use isp_script::{ScriptError, read_script};
+use isp_serial::Script;
 use std::alloc::{AllocError, Global};
 
 /// What bytes are: a script, or none, and then their first bad line, which is counted from 1, or 0 where there are too
 /// many bytes.
-#[derive(Debug, Drop)]
+#[derive(Drop)]
 pub enum Found {
     Script(Script),
     Bad { line: u64 },
@@ -21,9 +21,9 @@ pub enum Found {
 
 /// What the bytes of the source are, which is read to its end.
 pub fn find_script<S: Source>(alloc: Global, source: &mut S) -> Result<Found, Stop>
-    ensures found { IfOk result (λ found. IfSome (S.left source.old) (λ bytes. IsFound bytes found)) }
-    ensures end { IfOk result (λ found. IsGood found → IfSome (S.left source.new) (λ rest. rest ≡ [])) }
-    ensures taken { Takes 16777217 (S.left source.old) (S.left source.new) }
+    ensures found { S.tells → IfOk result (λ found. IsFound (S.left source.old) found) }
+    ensures end { S.tells → IfOk result (λ found. IsGood found → S.left source.new ≡ []) }
+    ensures taken { S.tells → Takes 16777217 (S.left source.old) (S.left source.new) }
     ensures cause { HasStops (S.faults source.old) (S.faults source.new) result }
 {
     let bytes = read_bytes(alloc, source)?;

@@ -4,8 +4,9 @@ ghost use Rattle.std.specs.Prelude.{◌≡◌, IfOk};
 ghost use Rattle.isp_run.specs.Sql.{sql};
 
 use isp_mbr::Bytes;
-use isp_plain::{Place, Plain, Statement};
+use isp_plain::{Plain, Statement};
 use isp_plan::meaning_of;
+use isp_serial::Place;
 use std::alloc::{AllocError, Global};
 
 /// The statement that the text means on these tables, at this place. The error is want of memory.

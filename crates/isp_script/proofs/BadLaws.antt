@@ -2,7 +2,7 @@
 use Rattle.std.proofs.Common.{◌≡◌, ◌∙◌, ℕ, zero, suc, ◌+◌, ◌≤◌, ◌<◌, Bool, true, false, nat_lt, ap, sym, subst, refl, List, [], ◌∷◌, ◌++◌, length, take, drop, arith, Option, Some, None, ok_or, option_and_then, Result, Ok, Err, IfOk, if◌then◌else◌, ◌⊎◌, inl, inr}
 use Rattle.std.proofs.lemmas.Bool.Decides.{nat_tests}
 use Rattle.std.proofs.lemmas.List.{take-append-drop, take_all, length-take}
-use Rattle.isp_plain.specs.declared.script.Script.{Script}
+use Rattle.isp_serial.specs.declared.script.Script.{Script}
 use Rattle.isp_script.specs.BadLines.{Begins, IsFirstBad, IsBadLine}
 use Rattle.isp_script.specs.Grammar.{IsScriptOfLines, IsScript}
 use Rattle.isp_script.specs.Laws.{OneScript, OneBadLine, ScriptOrBadLine, NotBoth}

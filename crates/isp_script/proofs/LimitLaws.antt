@@ -5,9 +5,9 @@ use Rattle.std.specs.Str.{bytes_eq}
 use Rattle.std.proofs.lemmas.Bool.Decides.{nat_tests}
 use Rattle.std.proofs.lemmas.List.{length-take}
 use Rattle.std.proofs.lemmas.List.Elements.{All-cons}
-use Rattle.isp_plain.specs.declared.script.Script.{Script}
-use Rattle.isp_plain.specs.declared.script.Session.{Session}
-use Rattle.isp_plain.specs.Alone.{IsAlone}
+use Rattle.isp_serial.specs.declared.script.Script.{Script}
+use Rattle.isp_serial.specs.declared.script.Session.{Session}
+use Rattle.isp_serial.specs.Alone.{IsAlone}
 use Rattle.isp_script.specs.Grammar.{said_in, sessions_said, script_said, AtMostOne, IsScript}
 use Rattle.isp_script.specs.Laws.{IsShort, IsWithin, WithinLimits}
 use Rattle.isp_script.specs.Lines.{line_of, lines_of, content_of, trimmed_length, without_return, word_of, session_of, setup_word, schedule_word, end_word, session_word}

@@ -2,8 +2,8 @@
 use Rattle.std.proofs.Common.{◌≡◌, ◌∙◌, ℕ, false, ap, sym, subst, refl, List, [], ◌∷◌, ◌++◌, map, append_assoc, append-nil, Option, Some, None, option_and_then}
 use Rattle.std.specs.List.{cons_option}
 use Rattle.std.proofs.lemmas.List.{map-append}
-use Rattle.isp_plain.specs.declared.script.Script.{Script}
-use Rattle.isp_plain.specs.declared.script.Session.{Session}
+use Rattle.isp_serial.specs.declared.script.Script.{Script}
+use Rattle.isp_serial.specs.declared.script.Session.{Session}
 use Rattle.isp_script.specs.Grammar.{said_in, sessions_said, script_said, AtMostOne, Rises, IsScriptOfLines}
 use Rattle.isp_script.specs.Lines.{line_of, setup_word, schedule_word, end_word, session_word}
 use Rattle.isp_script.specs.Reading.{step, heard}

@@ -1,6 +1,6 @@
 -- Which line of bytes that are no script is the first bad one.
 use Rattle.std.specs.Prelude.{◌≡◌, ℕ, ◌≤◌, ◌<◌, ◌+◌, List, ◌++◌, length, take, ◌⊎◌}
-use Rattle.isp_plain.specs.declared.script.Script.{Script}
+use Rattle.isp_serial.specs.declared.script.Script.{Script}
 use Rattle.isp_script.specs.Grammar.{IsScriptOfLines}
 use Rattle.isp_script.specs.Lines.{lines_of}
 

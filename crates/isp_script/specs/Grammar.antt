@@ -1,8 +1,8 @@
 -- The grammar of scripts, as a relation: what the lines that count say, in their order, is what the script spells.
 use Rattle.std.specs.Prelude.{◌≡◌, ℕ, ◌≤◌, ◌<◌, false, List, [], ◌∷◌, ◌++◌, length, map}
 use Rattle.std.specs.List.{filter_map}
-use Rattle.isp_plain.specs.declared.script.Script.{Script}
-use Rattle.isp_plain.specs.declared.script.Session.{Session}
+use Rattle.isp_serial.specs.declared.script.Script.{Script}
+use Rattle.isp_serial.specs.declared.script.Session.{Session}
 use Rattle.isp_script.specs.Lines.{line_of, lines_of}
 use Rattle.isp_script.specs.declared.lines.Line.{Line}
 use Rattle.isp_script.specs.declared.lines.Line.TheVariants as line

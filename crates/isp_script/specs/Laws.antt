@@ -1,8 +1,8 @@
 -- What holds of all scripts.
 use Rattle.std.specs.Prelude.{◌≡◌, ℕ, ◌≤◌, ◌==◌, false, List, [], ◌∷◌, ◌++◌, length, All, ◌⊎◌}
 use Rattle.std.specs.List.{flat_map}
-use Rattle.isp_plain.specs.declared.script.Script.{Script}
-use Rattle.isp_plain.specs.declared.script.Session.{Session}
+use Rattle.isp_serial.specs.declared.script.Script.{Script}
+use Rattle.isp_serial.specs.declared.script.Session.{Session}
 use Rattle.isp_script.specs.BadLines.{IsBadLine}
 use Rattle.isp_script.specs.Grammar.{IsScript}
 use Rattle.isp_script.specs.Lines.{lines_of}

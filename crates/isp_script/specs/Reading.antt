@@ -1,6 +1,6 @@
 -- Lines read one after another, up to a script or to the first bad line.
 use Rattle.std.specs.Prelude.{ℕ, ◌+◌, false, nat_lt, List, [], ◌∷◌, ◌++◌, length, if◌then◌else◌, Option, Some, None, ok_or, Result, Err}
-use Rattle.isp_plain.specs.declared.script.Script.{Script}
+use Rattle.isp_serial.specs.declared.script.Script.{Script}
 use Rattle.isp_script.specs.Lines.{line_of, lines_of}
 use Rattle.isp_script.specs.declared.lines.Line.{Line}
 use Rattle.isp_script.specs.declared.lines.Line.TheVariants as line

@@ -1,6 +1,6 @@
 -- What a call answered, beside what the bytes are.
 use Rattle.std.specs.Prelude.{◌≡◌, ℕ, Result, Ok, Err}
-use Rattle.isp_plain.specs.declared.script.Script.{Script}
+use Rattle.isp_serial.specs.declared.script.Script.{Script}
 use Rattle.isp_script.specs.declared.error.ScriptError.{ScriptError}
 use Rattle.isp_script.specs.declared.error.ScriptError.TheVariants.{Bad, OutOfMemory}
 

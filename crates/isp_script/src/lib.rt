@@ -6,11 +6,9 @@ mod error;
 mod laws;
 mod lines;
 mod script;
-#[cfg(test)]
-mod tests;
 
 pub use error::ScriptError;
-pub use isp_plain::{Script, Session, Sessions, Texts, Word, Words};
+pub use isp_serial::{Script, Session, Sessions, Texts, Word, Words};
 pub use laws::{
     law_lines_spelled, law_one_bad_line, law_one_script, law_script_or_bad_line, law_within_limits,
 };

@@ -8,7 +8,7 @@ use isp_mbr::Bytes;
 use std::alloc::{AllocError, Global};
 
 /// What a line says that is neither blank nor a comment.
-#[derive(Debug, Drop)]
+#[derive(Drop)]
 pub enum Line {
     Setup,
     /// A statement, with its text.

@@ -1,7 +1,7 @@
 //! The script that bytes are, or their first bad line.
 
 ghost use Rattle.std.specs.Prelude.{◌≡◌, ◌≤◌, ℕ, [], ◌∷◌, ◌++◌, IfOk, length};
-ghost use Rattle.isp_plain.specs.declared.script.Script.{Script};
+ghost use Rattle.isp_serial.specs.declared.script.Script.{Script};
 ghost use Rattle.isp_script.specs.Lines.{lines_of, line_of};
 ghost use Rattle.isp_script.specs.Grammar.{IsScript};
 ghost use Rattle.isp_script.specs.BadLines.{IsBadLine};
@@ -11,11 +11,11 @@ ghost use Rattle.isp_script.specs.Results.{IfBad, IsRead, IsTold, Tells};
 use crate::error::ScriptError;
 use crate::lines::{Line, first_line, line_of};
 use isp_mbr::Bytes;
-use isp_plain::{Script, Session, Sessions, Texts, Words};
+use isp_serial::{Script, Session, Sessions, Texts, Words};
 use std::alloc::{AllocError, Global};
 
 /// How far a script was read.
-#[derive(Debug, Drop)]
+#[derive(Drop)]
 pub enum Reading {
     Nothing,
     InSetup(Texts),

@@ -13,16 +13,19 @@ use Rattle.isp_sql.specs.declared.parsed.ParsedColumn.{ParsedColumn}
 use Rattle.isp_sql.specs.declared.parsed.ParsedKind.{ParsedKind}
 use Rattle.isp_sql.specs.declared.parsed.ParsedKind.TheVariants as kinds
 use Rattle.isp_sql.specs.declared.parsed.ParsedSet.{ParsedSet}
-use Rattle.isp_sql.specs.declared.token.Symbol.TheVariants.{Open, Close, Comma, Star, Minus}
-use Rattle.isp_sql.specs.declared.token.Token.{Token}
-use Rattle.isp_sql.specs.declared.token.Token.TheVariants as token
-use Rattle.isp_sql.specs.declared.words.Word.TheVariants as words
-use Rattle.isp_sql.specs.Grammar.{Phrase, ◌⨾◌, optional, each, list, word, symbol, name, digits, zero_digit, enclosed, signed, plain, geometry, literal, row, called, atom, condition, not_null, kind, column, index, key_column, set, shown, statement}
-use Rattle.isp_sql.specs.Reading.{Outcome, begins_word, begins_symbol, begins_name, begins_column, word_at, symbol_at, name_at, text_at, digits_at, zero_at, op_at, equal_at, test_at, more_at, list_at, plain_at, system_at, geometry_at, literal_at, compared_at, column_first_at, column_second_at, arguments_at, spatial_at, atom_at, where_at, not_null_at, key_at, big_int_at, var_char_at, geo_at, kind_at, column_at, index_at, definition_at, create_at, row_at, insert_at, shown_at, select_at, set_at, update_at, delete_at, transaction_at, change_at, statement_at, parsed_in}
-use Rattle.isp_sql.specs.Tokens.{is_symbol}
-use Rattle.isp_sql.specs.Words.{is_word, exchanged}
+use Rattle.isp_tokens.specs.declared.token.Symbol.TheVariants.{Open, Close, Comma, Star, Minus}
+use Rattle.isp_tokens.specs.declared.token.Token.{Token}
+use Rattle.isp_tokens.specs.declared.token.Token.TheVariants as token
+use Rattle.isp_tokens.specs.declared.words.Word.TheVariants as words
+use Rattle.isp_tokens.specs.Phrases.{Phrase, ◌⨾◌, optional, each, list, word, symbol, name, digits, zero_digit, enclosed, called}
+use Rattle.isp_sql.specs.Grammar.{signed, plain, geometry, literal, row, atom, condition, not_null, kind, column, index, key_column, set, shown, statement}
+use Rattle.isp_tokens.specs.OneToken.{Outcome, begins_word, begins_symbol, begins_name, begins_column, word_at, symbol_at, name_at, text_at, digits_at, zero_at, op_at, equal_at, test_at}
+use Rattle.isp_sql.specs.Reading.{more_at, list_at, plain_at, system_at, geometry_at, literal_at, compared_at, column_first_at, column_second_at, arguments_at, spatial_at, atom_at, where_at, not_null_at, key_at, big_int_at, var_char_at, geo_at, kind_at, column_at, index_at, definition_at, create_at, row_at, insert_at, shown_at, select_at, set_at, update_at, delete_at, transaction_at, change_at, statement_at, parsed_in}
+use Rattle.isp_tokens.specs.Tokens.{is_symbol}
+use Rattle.isp_tokens.specs.Words.{is_word, exchanged}
 use Rattle.isp_sql.proofs.SoundForms.{twice}
-use Rattle.isp_sql.proofs.CompleteReading.{if_true, if_false, bind_is, word_again, symbol_again, name_again, text_again, digits_again, op_again, zero_again, equal_again, test_again, Shrinks, one_shrinks, both_shrink, either_shrinks, empty_shrinks, called_shrinks, IsComplete, more_again, list_again, list_shrinks}
+use Rattle.isp_tokens.proofs.OneTokenComplete.{if_true, if_false, bind_is, word_again, symbol_again, name_again, text_again, digits_again, op_again, zero_again, equal_again, test_again, Shrinks, one_shrinks, both_shrink, either_shrinks, empty_shrinks, called_shrinks}
+use Rattle.isp_sql.proofs.CompleteReading.{IsComplete, more_again, list_again, list_shrinks}
 
 -- whatever follows
 abbrev Any : List Token → Type 0

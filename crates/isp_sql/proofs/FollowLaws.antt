@@ -1,9 +1,10 @@
 -- Reading members one after another, as a loop does.
 use Rattle.std.proofs.Common.{◌≡◌, ◌∙◌, ℕ, suc, ◌-◌, ◌+◌, ◌<◌, List, [], ◌∷◌, ◌++◌, length, drop, true, Some, None, refl, sym, ap, append_assoc, arith}
 use Rattle.isp_sql.specs.declared.members.Going.{Going}
-use Rattle.isp_sql.specs.declared.token.Token.{Token}
+use Rattle.isp_tokens.specs.declared.token.Token.{Token}
 use Rattle.isp_sql.specs.Following.{with_front}
-use Rattle.isp_sql.specs.Reading.{◌>>=◌, Outcome, goes_on, others_at, more_at}
+use Rattle.isp_tokens.specs.OneToken.{◌>>=◌, Outcome}
+use Rattle.isp_sql.specs.Reading.{goes_on, others_at, more_at}
 
 module _ {X : Type 0} where
   pub starts : (going : Going) (item : List Token → Outcome X) (front : List X) (tokens : List Token) (most : ℕ) → most ≡ length tokens

@@ -1,9 +1,6 @@
-pub mod ScanLaws
-pub mod FollowLaws
-pub mod SoundReading
-pub mod SoundForms
-pub mod CompleteReading
 pub mod CompleteForms
-pub mod TokenLaws
-pub mod TokensAgain
+pub mod CompleteReading
+pub mod FollowLaws
+pub mod SoundForms
+pub mod SoundReading
 pub mod StatementLaws

@@ -12,13 +12,16 @@ use Rattle.isp_sql.specs.declared.parsed.ParsedAtom.TheVariants as atoms
 use Rattle.isp_sql.specs.declared.parsed.ParsedColumn.{ParsedColumn}
 use Rattle.isp_sql.specs.declared.parsed.ParsedKind.TheVariants as kinds
 use Rattle.isp_sql.specs.declared.parsed.ParsedSet.{ParsedSet}
-use Rattle.isp_sql.specs.declared.token.Symbol.TheVariants.{Open, Close, Comma, Star, Minus}
-use Rattle.isp_sql.specs.declared.token.Token.{Token}
-use Rattle.isp_sql.specs.declared.words.Word.TheVariants as words
-use Rattle.isp_sql.specs.Grammar.{Phrase, ◌⨾◌, optional, each, list, word, symbol, name, zero_digit, plain, geometry, literal, row, called, atom, condition, not_null, kind, column, index, key_column, set, shown, statement}
-use Rattle.isp_sql.specs.Reading.{begins_word, begins_symbol, begins_name, begins_digits, word_at, symbol_at, name_at, text_at, digits_at, zero_at, op_at, equal_at, test_at, more_at, list_at, plain_at, system_at, geometry_at, literal_at, compared_at, column_first_at, column_second_at, arguments_at, spatial_at, atom_at, where_at, not_null_at, key_at, big_int_at, var_char_at, geo_at, kind_at, column_at, index_at, definition_at, create_at, row_at, insert_at, shown_at, select_at, set_at, update_at, delete_at, transaction_at, change_at, statement_at, alone, parsed_in}
-use Rattle.isp_sql.specs.Words.{exchanged}
-use Rattle.isp_sql.proofs.SoundReading.{bind_some, chosen, never, moved, IsSound, IsRead, word_begins, symbol_begins, word_back, symbol_back, name_sound, text_sound, digits_sound, op_sound, zero_back, equal_back, test_sound, more_sound, list_sound}
+use Rattle.isp_tokens.specs.declared.token.Symbol.TheVariants.{Open, Close, Comma, Star, Minus}
+use Rattle.isp_tokens.specs.declared.token.Token.{Token}
+use Rattle.isp_tokens.specs.declared.words.Word.TheVariants as words
+use Rattle.isp_tokens.specs.Phrases.{Phrase, ◌⨾◌, optional, each, list, word, symbol, name, zero_digit, called}
+use Rattle.isp_sql.specs.Grammar.{plain, geometry, literal, row, atom, condition, not_null, kind, column, index, key_column, set, shown, statement}
+use Rattle.isp_tokens.specs.OneToken.{begins_word, begins_symbol, begins_name, begins_digits, word_at, symbol_at, name_at, text_at, digits_at, zero_at, op_at, equal_at, test_at}
+use Rattle.isp_sql.specs.Reading.{more_at, list_at, plain_at, system_at, geometry_at, literal_at, compared_at, column_first_at, column_second_at, arguments_at, spatial_at, atom_at, where_at, not_null_at, key_at, big_int_at, var_char_at, geo_at, kind_at, column_at, index_at, definition_at, create_at, row_at, insert_at, shown_at, select_at, set_at, update_at, delete_at, transaction_at, change_at, statement_at, alone, parsed_in}
+use Rattle.isp_tokens.specs.Words.{exchanged}
+use Rattle.isp_tokens.proofs.OneTokenSound.{bind_some, chosen, never, moved, IsSound, IsRead, word_begins, symbol_begins, word_back, symbol_back, name_sound, text_sound, digits_sound, op_sound, zero_back, equal_back, test_sound}
+use Rattle.isp_sql.proofs.SoundReading.{more_sound, list_sound}
 
 -- ---- values
 

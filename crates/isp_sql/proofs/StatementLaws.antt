@@ -1,21 +1,19 @@
 -- The statement that is read of a text is the one that the grammar says.
 use Rattle.std.proofs.Common.{◌≡◌, ◌∙◌, ℕ, List, Option, Some, None, Result, Ok, Err, IfOk, refl, sym, ap}
 use Rattle.std.specs.Option.{option_and_then}
-use Rattle.isp_sql.specs.declared.error.SqlError.{SqlError}
-use Rattle.isp_sql.specs.declared.error.SqlError.TheVariants.{Syntax, OutOfMemory}
+use Rattle.isp_tokens.specs.declared.error.SqlError.{SqlError}
+use Rattle.isp_tokens.specs.declared.error.SqlError.TheVariants.{Syntax, OutOfMemory}
 use Rattle.isp_sql.specs.declared.parsed.Parsed.{Parsed}
-use Rattle.isp_sql.specs.declared.token.Token.{Token}
-use Rattle.isp_sql.specs.declared.words.Word.TheVariants as words
+use Rattle.isp_tokens.specs.declared.token.Token.{Token}
 use Rattle.isp_sql.specs.Grammar.{IsStatement}
-use Rattle.isp_sql.specs.Laws.{IsRead, OneMeaning, ReadAsWritten, WordsAreKnown}
+use Rattle.isp_sql.specs.Laws.{IsRead, OneMeaning, ReadAsWritten}
 use Rattle.isp_sql.specs.Reading.{IsParsed, parsed_in, parsed_of}
-use Rattle.isp_sql.specs.Scanning.{tokens_of}
-use Rattle.isp_sql.specs.Words.{spelling, words as all_words}
+use Rattle.isp_tokens.specs.Scanning.{tokens_of}
 use Rattle.isp_sql.proofs.CompleteForms.{parsed_again}
 use Rattle.isp_sql.proofs.SoundForms.{parsed_sound}
-use Rattle.isp_sql.proofs.SoundReading.{never}
-use Rattle.isp_sql.proofs.TokenLaws.{tokens_sound}
-use Rattle.isp_sql.proofs.TokensAgain.{tokens_again}
+use Rattle.isp_tokens.proofs.OneTokenSound.{never}
+use Rattle.isp_tokens.proofs.TokenLaws.{tokens_sound}
+use Rattle.isp_tokens.proofs.TokensAgain.{tokens_again}
 
 chained : (f : List Token → Option Parsed) (o : Option (List Token)) (p : Parsed) → option_and_then f o ≡ Some p → (ts : List Token) × (o ≡ Some ts) × (f ts ≡ Some p)
 chained f (Some ts) p e = (ts, refl, e)
@@ -48,41 +46,3 @@ one_meaning p q text m n = some_one p q (sym (text_again text p m) ∙ text_agai
 
 pub read_as_written : ReadAsWritten
 read_as_written p text = (text_again text p, text_sound text p)
-
-pub words_known : WordsAreKnown
-unfolding spelling all_words
-words_known words.Begin = refl
-words_known words.Start = refl
-words_known words.Transaction = refl
-words_known words.Commit = refl
-words_known words.Rollback = refl
-words_known words.Create = refl
-words_known words.Table = refl
-words_known words.BigInt = refl
-words_known words.Not = refl
-words_known words.Null = refl
-words_known words.Primary = refl
-words_known words.Key = refl
-words_known words.Spatial = refl
-words_known words.Index = refl
-words_known words.VarChar = refl
-words_known words.Geometry = refl
-words_known words.Srid = refl
-words_known words.Insert = refl
-words_known words.Into = refl
-words_known words.Values = refl
-words_known words.Select = refl
-words_known words.From = refl
-words_known words.Update = refl
-words_known words.Set = refl
-words_known words.Delete = refl
-words_known words.Where = refl
-words_known words.And = refl
-words_known words.GeomFromText = refl
-words_known words.Contains = refl
-words_known words.Within = refl
-words_known words.Intersects = refl
-words_known words.Disjoint = refl
-words_known words.Equals = refl
-words_known words.Covers = refl
-words_known words.CoveredBy = refl

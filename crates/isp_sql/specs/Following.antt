@@ -1,6 +1,6 @@
 -- Members behind those that were found.
 use Rattle.std.specs.Prelude.{List, ◌++◌, Some}
-use Rattle.isp_sql.specs.Reading.{◌>>=◌, Outcome}
+use Rattle.isp_tokens.specs.OneToken.{◌>>=◌, Outcome}
 
 -- what was found before, and what is still read
 abbrev pub with_front : {X : Type 0} → List X → Outcome (List X) → Outcome (List X)

@@ -15,11 +15,11 @@
 --   literal   = plain | geometry
 --   geometry  = ST_GeomFromText ( string [, 0] )
 --
--- A phrase says of tokens, and of those that are left behind it, whether it stands between. Each definition says as which
--- phrase a value is written. Which bytes are words, names, digits, strings and comparisons is said in Tokens.
-use Rattle.std.specs.Prelude.{◌≡◌, ℕ, Bool, true, false, ◌⊎◌, List, [], ◌∷◌, Option, Some, None}
-use Rattle.isp_mbr.specs.declared.Test.{Test}
+-- Each definition says as which phrase of tokens a value is written. Phrases, and which bytes are words, names, digits,
+-- strings and comparisons, are isp_tokens'.
+use Rattle.std.specs.Prelude.{ℕ, Bool, true, false, List, [], ◌∷◌, Option, Some, None}
 use Rattle.isp_plain.specs.declared.statement.Op.TheVariants.{Eq}
+use Rattle.isp_tokens.specs.Phrases.{Phrase, empty, one, ◌⨾◌, ◌∣◌, optional, each, list, word, symbol, name, digits, zero_digit, enclosed, called}
 use Rattle.isp_sql.specs.declared.parsed.Literal.{Literal}
 use Rattle.isp_sql.specs.declared.parsed.Literal.TheVariants as literals
 use Rattle.isp_sql.specs.declared.parsed.Parsed.{Parsed}
@@ -30,71 +30,12 @@ use Rattle.isp_sql.specs.declared.parsed.ParsedColumn.{ParsedColumn}
 use Rattle.isp_sql.specs.declared.parsed.ParsedKind.{ParsedKind}
 use Rattle.isp_sql.specs.declared.parsed.ParsedKind.TheVariants as kinds
 use Rattle.isp_sql.specs.declared.parsed.ParsedSet.{ParsedSet}
-use Rattle.isp_sql.specs.declared.token.Symbol.{Symbol}
-use Rattle.isp_sql.specs.declared.token.Symbol.TheVariants.{Open, Close, Comma, Star, Minus}
-use Rattle.isp_sql.specs.declared.token.Token.{Token}
-use Rattle.isp_sql.specs.declared.token.Token.TheVariants as token
-use Rattle.isp_sql.specs.declared.words.Word.{Word}
-use Rattle.isp_sql.specs.declared.words.Word.TheVariants as words
-use Rattle.isp_sql.specs.Tokens.{AreTokens}
-use Rattle.isp_sql.specs.Words.{test_of, exchanged}
-
--- ---- phrases
-
-abbrev pub Phrase : Type 1
-Phrase = List Token → List Token → Type 0
-
--- nothing
-abbrev pub empty : Phrase
-empty tokens left = tokens ≡ left
-
--- the token
-abbrev pub one : Token → Phrase
-one token tokens left = tokens ≡ token ∷ left
-
--- the first phrase, and the second behind it
-infixr 20 ◌⨾◌
-abbrev pub ◌⨾◌ : Phrase → Phrase → Phrase
-(P ⨾ Q) tokens left = (mid : List Token) × P tokens mid × Q mid left
-
--- one of two phrases
-infixr 15 ◌∣◌
-abbrev pub ◌∣◌ : Phrase → Phrase → Phrase
-(P ∣ Q) tokens left = P tokens left ⊎ Q tokens left
-
--- a phrase that may be left out
-abbrev pub optional : Phrase → Phrase
-optional P = empty ∣ P
-
--- values one after another, each behind the phrase that separates them
-abbrev pub each : {X : Type 0} → Phrase → (X → Phrase) → List X → Phrase
-each separator P [] = empty
-each separator P (x ∷ xs) = separator ⨾ P x ⨾ each separator P xs
-
--- one value or more, with the phrase between them
-abbrev pub list : {X : Type 0} → Phrase → (X → Phrase) → List X → Phrase
-list separator P [] tokens left = ⊥
-list separator P (x ∷ xs) tokens left = (P x ⨾ each separator P xs) tokens left
-
-abbrev pub word : Word → Phrase
-word w = one (token.Word w)
-
-abbrev pub symbol : Symbol → Phrase
-symbol s = one (token.Symbol s)
-
-abbrev pub name : List ℕ → Phrase
-name n = one (token.Name n)
-
-abbrev pub digits : List ℕ → Phrase
-digits d = one (token.Digits d)
-
--- the digit 0 alone
-abbrev pub zero_digit : Phrase
-zero_digit = digits (48 ∷ [])
-
--- between parentheses
-abbrev pub enclosed : Phrase → Phrase
-enclosed P = symbol Open ⨾ P ⨾ symbol Close
+use Rattle.isp_tokens.specs.declared.token.Symbol.TheVariants.{Comma, Star, Minus}
+use Rattle.isp_tokens.specs.declared.token.Token.{Token}
+use Rattle.isp_tokens.specs.declared.token.Token.TheVariants as token
+use Rattle.isp_tokens.specs.declared.words.Word.TheVariants as words
+use Rattle.isp_tokens.specs.Tokens.{AreTokens}
+use Rattle.isp_tokens.specs.Words.{exchanged}
 
 -- ---- values
 
@@ -119,10 +60,6 @@ abbrev pub row : List Literal → Phrase
 row values = enclosed (list (symbol Comma) literal values)
 
 -- ---- conditions
-
--- a function that is this test where its first argument is the column
-abbrev pub called : Test → Phrase
-called test tokens left = (w : Word) × (test_of w ≡ Some test) × word w tokens left
 
 -- the test of a column's box, which stands first in it, and of the geometry's
 abbrev pub atom : ParsedAtom → Phrase

@@ -1,12 +1,10 @@
 -- What holds of all texts.
 use Rattle.std.specs.Prelude.{◌≡◌, ◌↔◌, ℕ, List, Result, Ok, Err, Some}
-use Rattle.isp_sql.specs.declared.error.SqlError.{SqlError}
-use Rattle.isp_sql.specs.declared.error.SqlError.TheVariants.{Syntax, OutOfMemory}
+use Rattle.isp_tokens.specs.declared.error.SqlError.{SqlError}
+use Rattle.isp_tokens.specs.declared.error.SqlError.TheVariants.{Syntax, OutOfMemory}
 use Rattle.isp_sql.specs.declared.parsed.Parsed.{Parsed}
-use Rattle.isp_sql.specs.declared.words.Word.{Word}
 use Rattle.isp_sql.specs.Grammar.{IsStatement}
 use Rattle.isp_sql.specs.Reading.{parsed_of}
-use Rattle.isp_sql.specs.Words.{spelling, word_of}
 
 -- this statement was read, unless memory ran out
 abbrev pub IsRead : Result Parsed SqlError → Parsed → Type 0
@@ -21,7 +19,3 @@ OneMeaning = (p q : Parsed) (text : List ℕ) → IsStatement p text → IsState
 -- reading from left to right finds the statement that the grammar says
 abbrev pub ReadAsWritten : Type 0
 ReadAsWritten = (p : Parsed) (text : List ℕ) → IsStatement p text ↔ (parsed_of text ≡ Some p)
-
--- each word is known by its own spelling
-abbrev pub WordsAreKnown : Type 0
-WordsAreKnown = (w : Word) → word_of (spelling w) ≡ Some w

@@ -1,17 +1,15 @@
 //! The condition of a statement.
 
 ghost use Rattle.std.specs.Prelude.{◌≡◌, List};
-ghost use Rattle.isp_sql.specs.Reading.{Reads, Outcome, atom_at, compared_at, spatial_at, arguments_at, column_first_at, column_second_at, where_at};
-ghost use Rattle.isp_sql.specs.declared.token.Token.{Token};
+ghost use Rattle.isp_tokens.specs.OneToken.{Reads, Outcome};
+ghost use Rattle.isp_sql.specs.Reading.{atom_at, compared_at, spatial_at, arguments_at, column_first_at, column_second_at, where_at};
+ghost use Rattle.isp_tokens.specs.declared.token.Token.{Token};
 
-use crate::cursor::Cursor;
-use crate::error::SqlError;
 use crate::members::{Going, Item, list};
 use crate::parsed::{ParsedAtom, ParsedAtoms};
-use crate::token::Symbol;
 use crate::value::{geometry, plain};
-use crate::words::{Word, exchanged};
 use isp_mbr::Test;
+use isp_tokens::{Cursor, SqlError, Symbol, Word, exchanged};
 use sqlite_items::Items;
 use std::alloc::Global;
 

@@ -1,16 +1,14 @@
 //! The definition of a table.
 
 ghost use Rattle.std.specs.Prelude.{◌≡◌, List};
-ghost use Rattle.isp_sql.specs.Reading.{Reads, Outcome, not_null_at, key_at, big_int_at, var_char_at, geo_at, kind_at, column_at, index_at, definition_at, create_at};
-ghost use Rattle.isp_sql.specs.declared.token.Token.{Token};
+ghost use Rattle.isp_tokens.specs.OneToken.{Reads, Outcome};
+ghost use Rattle.isp_sql.specs.Reading.{not_null_at, key_at, big_int_at, var_char_at, geo_at, kind_at, column_at, index_at, definition_at, create_at};
+ghost use Rattle.isp_tokens.specs.declared.token.Token.{Token};
 
-use crate::cursor::Cursor;
-use crate::error::SqlError;
 use crate::members::{Going, Item, more};
 use crate::parsed::{Parsed, ParsedColumn, ParsedKind};
-use crate::token::Symbol;
-use crate::words::Word;
-use isp_mbr::Name;
+use isp_base::Name;
+use isp_tokens::{Cursor, SqlError, Symbol, Word};
 use std::alloc::Global;
 
 // A column behind the key.

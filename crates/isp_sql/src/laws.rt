@@ -1,6 +1,6 @@
 //! What holds of all texts.
 
-ghost use Rattle.isp_sql.specs.Laws.{OneMeaning, ReadAsWritten, WordsAreKnown};
+ghost use Rattle.isp_sql.specs.Laws.{OneMeaning, ReadAsWritten};
 
 /// A text is one statement at most.
 pub fn law_one_meaning()
@@ -10,9 +10,4 @@ pub fn law_one_meaning()
 /// Reading a text from left to right finds the statement that it is by the grammar, and nothing where it is none.
 pub fn law_read_as_written()
     ensures { ReadAsWritten }
-{}
-
-/// Each word of the grammar is known by its own spelling, so that no two of them are one.
-pub fn law_words_are_known()
-    ensures { WordsAreKnown }
 {}

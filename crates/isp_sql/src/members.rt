@@ -1,19 +1,17 @@
 //! Lists, in which members follow one another behind a comma or AND.
 
 ghost use Rattle.std.specs.Prelude.{◌≡◌, List, [], ◌∷◌, IfOk};
-ghost use Rattle.isp_sql.specs.Reading.{Reads, Outcome, goes_on, others_at, more_at, list_at};
+ghost use Rattle.isp_tokens.specs.OneToken.{Reads, Outcome};
+ghost use Rattle.isp_sql.specs.Reading.{goes_on, others_at, more_at, list_at};
 ghost use Rattle.isp_sql.specs.Following.{with_front};
-ghost use Rattle.isp_sql.specs.declared.token.Token.{Token};
+ghost use Rattle.isp_tokens.specs.declared.token.Token.{Token};
 
-use crate::cursor::Cursor;
-use crate::error::SqlError;
-use crate::token::Symbol;
-use crate::words::Word;
+use isp_tokens::{Cursor, SqlError, Symbol, Word};
 use sqlite_items::Items;
 use std::alloc::{AllocError, Global};
 
 /// What stands before a further member: a comma, AND, or a comma with a name behind it.
-#[derive(Clone, Copy, Debug, PartialEq, Eq)]
+#[derive(Clone, Copy)]
 pub enum Going {
     Comma,
     And,

@@ -1,6 +1,7 @@
 //! A statement as it is written: names, digits and strings, not yet bound to any table.
 
-use isp_mbr::{Bytes, Name, Test};
+use isp_base::{Bytes, Name};
+use isp_mbr::Test;
 use isp_plain::Op;
 use sqlite_items::Items;
 
@@ -9,7 +10,7 @@ pub type Names = Items<Name>;
 
 /// A value as it is written. `Number` has the digits and whether a minus stands before them; `Text` is a string, and
 /// `Wkt` the string within `ST_GeomFromText`, both without their quotes and with `''` read as one quote.
-#[derive(Debug, Drop)]
+#[derive(Drop)]
 pub enum Literal {
     Number { minus: bool, digits: Bytes },
     Text(Bytes),
@@ -23,7 +24,7 @@ pub type Literals = Items<Literal>;
 pub type LiteralRows = Items<Literals>;
 
 /// What a column holds. `VarChar` has the digits of its size.
-#[derive(Debug, Drop)]
+#[derive(Drop)]
 pub enum ParsedKind {
     BigInt,
     VarChar(Bytes),
@@ -31,7 +32,7 @@ pub enum ParsedKind {
 }
 
 /// A column of a CREATE TABLE behind the key.
-#[derive(Debug, Drop)]
+#[derive(Drop)]
 pub struct ParsedColumn {
     pub name: Name,
     pub kind: ParsedKind,
@@ -41,7 +42,7 @@ pub struct ParsedColumn {
 pub type ParsedColumns = Items<ParsedColumn>;
 
 /// What UPDATE sets: the column's new value.
-#[derive(Debug, Drop)]
+#[derive(Drop)]
 pub struct ParsedSet {
     pub column: Name,
     pub v: Literal,
@@ -52,7 +53,7 @@ pub type ParsedSets = Items<ParsedSet>;
 
 /// One test of a condition: how a column's value compares with a number or a string, or that the box of its geometry
 /// meets a test against the box of the geometry whose text is `g`. The test is the one with the row's box first.
-#[derive(Debug, Drop)]
+#[derive(Drop)]
 pub enum ParsedAtom {
     Cmp { column: Name, op: Op, v: Literal },
     Box { column: Name, test: Test, g: Bytes },
@@ -63,7 +64,7 @@ pub type ParsedAtoms = Items<ParsedAtom>;
 
 /// A statement as it is written. The columns of `Create` are those behind the key, and its indexes are the columns that
 /// a spatial index is wanted on. `columns` of `Select` is None for `*`. No atom stands for a statement without WHERE.
-#[derive(Debug, Drop)]
+#[derive(Drop)]
 pub enum Parsed {
     Create {
         name: Name,

@@ -4,18 +4,16 @@ ghost use Rattle.std.specs.Prelude.{◌≡◌, List, IfOk};
 ghost use Rattle.isp_sql.specs.Grammar.{IsStatement};
 ghost use Rattle.isp_sql.specs.Laws.{IsRead};
 ghost use Rattle.isp_sql.specs.declared.parsed.Parsed.{Parsed};
-ghost use Rattle.isp_sql.specs.Reading.{Reads, Outcome, IsParsed, insert_at, shown_at, select_at, set_at, update_at, delete_at, transaction_at, change_at, statement_at, parsed_in, parsed_of};
-ghost use Rattle.isp_sql.specs.declared.token.Token.{Token};
+ghost use Rattle.isp_tokens.specs.OneToken.{Reads, Outcome};
+ghost use Rattle.isp_sql.specs.Reading.{IsParsed, insert_at, shown_at, select_at, set_at, update_at, delete_at, transaction_at, change_at, statement_at, parsed_in, parsed_of};
+ghost use Rattle.isp_tokens.specs.declared.token.Token.{Token};
 
 use crate::condition::condition;
-use crate::cursor::Cursor;
 use crate::definition::create;
-use crate::error::SqlError;
 use crate::members::{Going, Item, list};
 use crate::parsed::{Names, Parsed, ParsedSet};
-use crate::token::{Symbol, Token, tokens_of};
 use crate::value::{OneName, OneRow, literal};
-use crate::words::Word;
+use isp_tokens::{Cursor, SqlError, Symbol, Token, Word, tokens_of};
 use std::alloc::Global;
 
 // What UPDATE sets a column to.

@@ -1,16 +1,14 @@
 //! Names, numbers, strings and geometries in a statement.
 
 ghost use Rattle.std.specs.Prelude.{◌≡◌, List, true, false};
-ghost use Rattle.isp_sql.specs.Reading.{Reads, Outcome, name_at, plain_at, system_at, geometry_at, literal_at, row_at};
-ghost use Rattle.isp_sql.specs.declared.token.Token.{Token};
+ghost use Rattle.isp_tokens.specs.OneToken.{Reads, Outcome, name_at};
+ghost use Rattle.isp_sql.specs.Reading.{plain_at, system_at, geometry_at, literal_at, row_at};
+ghost use Rattle.isp_tokens.specs.declared.token.Token.{Token};
 
-use crate::cursor::Cursor;
-use crate::error::SqlError;
 use crate::members::{Going, Item, list};
 use crate::parsed::{Literal, Literals};
-use crate::token::Symbol;
-use crate::words::Word;
-use isp_mbr::{Bytes, Name};
+use isp_base::{Bytes, Name};
+use isp_tokens::{Cursor, SqlError, Symbol, Word};
 use std::alloc::Global;
 
 /// A name in a list.

@@ -6,8 +6,6 @@ mod line;
 mod refusal;
 mod reply;
 mod row;
-#[cfg(test)]
-mod tests;
 
 pub use line::answer_line;
 pub use reply::print_reply;

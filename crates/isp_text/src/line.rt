@@ -2,7 +2,7 @@
 
 ghost use Rattle.std.specs.Prelude.{◌≡◌, [], ◌∷◌, ◌++◌, IfOk, OnOk};
 ghost use Rattle.std.specs.Fmt.{decimal};
-ghost use Rattle.isp_plain.specs.Spelling.{line_of};
+ghost use Rattle.isp_serial.specs.Spelling.{line_of};
 ghost use Rattle.isp_plain.specs.Texts.{reply_text};
 
 use crate::bytes::{push, push_decimal};

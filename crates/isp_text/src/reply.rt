@@ -33,7 +33,7 @@ pub fn push_reply(out: &mut Vec<u8>, alloc: Global, reply: &Reply) -> Result<(),
             push_rows(out, alloc, rows.as_slice())?;
             Ok(())
         }
-        Reply::Err { number, at } => push_refusal(out, alloc, *number, *at),
+        Reply::Err(refusal) => push_refusal(out, alloc, *refusal),
         Reply::End => push_end(out),
     }
 }

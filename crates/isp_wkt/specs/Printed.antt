@@ -5,6 +5,7 @@ use Rattle.std.specs.Prelude.{ℕ, List, [], ◌∷◌, ◌++◌}
 use Rattle.std.specs.Fmt.{signed_decimal}
 use Rattle.isp_geom.specs.declared.form.Point.{Point}
 use Rattle.isp_geom.specs.declared.form.Form.{Form, Form-F, fold-Form}
+use Rattle.isp_geom.specs.declared.form.Form.TheVariants as form
 use Rattle.isp_wkt.specs.declared.kind.Kind.TheVariants as kind
 use Rattle.isp_wkt.specs.Words.{word}
 
@@ -44,5 +45,11 @@ level (Form-F.MultiLineString ls) = word kind.MultiLineString ++ lines ls
 level (Form-F.MultiPolygon ps) = word kind.MultiPolygon ++ listed lines ps
 level (Form-F.Collection members) = word kind.Collection ++ listed (λ member. member) members
 
+-- level by level
+unfoldable pub printed_by_levels : Form → List ℕ
+printed_by_levels = fold-Form (List ℕ) level
+
+-- A point alone is written out, so that what is said of it computes.
 unfoldable pub printed : Form → List ℕ
-printed = fold-Form (List ℕ) level
+printed (form.Point p) = level (Form-F.Point p)
+printed f = printed_by_levels f

@@ -1,6 +1,6 @@
 -- Reading well-known text from left to right: a value and the bytes after it, or the first fault. A fault has its cause
 -- and how many bytes there are from it to the end of the text.
-use Rattle.std.specs.Prelude.{◌≡◌, ℕ, zero, suc, ◌+◌, ◌-◌, ◌*◌, ◌==◌, ◌&&◌, ◌||◌, not, nat_le, nat_lt, max, ℤ, pos, neg_ℤ, Bool, true, false, List, [], ◌∷◌, length, drop, Result, Ok, Err, Option, Some, None, if◌then◌else◌}
+use Rattle.std.specs.Prelude.{◌≡◌, ℕ, zero, suc, ◌+◌, ◌-◌, ◌*◌, ◌==◌, ◌&&◌, ◌||◌, not, nat_le, nat_lt, max, ℤ, pos, neg_ℤ, Bool, true, false, List, [], ◌∷◌, ◌++◌, length, drop, Result, Ok, Err, Option, Some, None, if◌then◌else◌}
 use Rattle.isp_geom.specs.declared.form.Point as p
 use Rattle.isp_geom.specs.declared.form.Form.{Form}
 use Rattle.isp_geom.specs.declared.form.Form.TheVariants as form
@@ -176,6 +176,12 @@ member_at item bytes = do
   member ← item bytes
   more ← more_at member.1
   Ok ((member.0, more.0), more.1)
+
+-- what a call answered that puts a member behind those found: whether the list goes on, with the bytes that it left
+abbrev pub Adds : {X : Type 0} → Result Bool Stop → Outcome (X × Bool) → List X → List X → List ℕ → Type 0
+Adds {X} (Ok goes_on) read old new left = (next : X) × (new ≡ old ++ next ∷ []) × (read ≡ Ok ((next, goes_on), left))
+Adds (Err (Bad fault)) read old new left = read ≡ Err fault
+Adds (Err OutOfMemory) read old new left = Unit {0}
 
 -- Members up to the closing parenthesis. Each takes a byte at least, so that none is left behind so many.
 abbrev pub items_at : {X : Type 0} → (List ℕ → Outcome X) → ℕ → List ℕ → Outcome (List X)

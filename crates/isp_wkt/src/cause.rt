@@ -1,6 +1,7 @@
 //! Why a text is not a geometry, and where.
 
 use std::alloc::AllocError;
+use thiserror::Error;
 
 /// Why a text is outside the grammar. The place is the first byte after which no text of the grammar goes on, or the
 /// length where the text ends too early; the cause is the first of these that fits there.
@@ -27,23 +28,25 @@ pub enum WktCause {
 }
 
 /// Why a text is not read.
-#[derive(Clone, Copy, Debug, PartialEq, Eq)]
+#[derive(Clone, Copy, Debug, PartialEq, Eq, Error)]
 pub enum WktError {
     /// The text is outside the grammar, at the byte `at`, from 0.
+    #[error("no geometry's text at byte {at}")]
     Bad { cause: WktCause, at: usize },
     /// Want of memory.
+    #[error("out of memory")]
     OutOfMemory,
 }
 
 /// A fault, with the number of bytes from there to the end of the text.
-#[derive(Clone, Copy, Debug, PartialEq, Eq)]
+#[derive(Clone, Copy)]
 pub struct Fault {
     pub cause: WktCause,
     pub left: usize,
 }
 
 /// Why reading stops.
-#[derive(Clone, Copy, Debug, PartialEq, Eq)]
+#[derive(Clone, Copy)]
 pub enum Stop {
     Bad(Fault),
     OutOfMemory,

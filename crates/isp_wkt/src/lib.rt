@@ -8,8 +8,6 @@ mod laws;
 mod number;
 mod printer;
 mod reader;
-#[cfg(test)]
-mod tests;
 
 pub use cause::{WktCause, WktError};
 pub use laws::{

@@ -8,8 +8,8 @@ ghost use Rattle.isp_wkt.specs.Grammar.{IsText};
 ghost use Rattle.isp_wkt.specs.declared.kind.Kind.TheVariants as kind;
 
 use crate::kind::{Kind, word};
+use isp_base::Bytes;
 use isp_geom::{Form, Geometry, Point};
-use isp_mbr::Bytes;
 use itoa::Buffer;
 use sqlite_items::Items;
 use std::alloc::{AllocError, Global};

@@ -1,7 +1,7 @@
 //! Reading geometries from well-known text.
 
 ghost use Rattle.std.specs.Prelude.{◌≡◌, ◌≤◌, ◌-◌, ◌+◌, ℕ, List, length, [], ◌∷◌, IfOk, Ok, Err, true, false};
-ghost use Rattle.isp_wkt.specs.Reading.{Gives, Reads, Outcome, point_at, marked_at, single_at, line_at, lines_at, list_at, items_at, ruled, geometry_at, members_at, member_at, word_in, rest_at, ReadsForm, text_at, kinds, skipped, Answers, IsRead};
+ghost use Rattle.isp_wkt.specs.Reading.{Adds, Gives, Reads, Outcome, point_at, marked_at, single_at, line_at, lines_at, list_at, items_at, ruled, geometry_at, members_at, member_at, word_in, rest_at, ReadsForm, text_at, kinds, skipped, Answers, IsRead};
 ghost use Rattle.isp_wkt.specs.declared.cause.WktCause.{WktCause};
 ghost use Rattle.isp_wkt.specs.declared.cause.WktCause.TheVariants.{Empty};
 ghost use Rattle.isp_geom.specs.declared.form.Form.{Form};
@@ -145,13 +145,19 @@ fn list<I: Item>(
     items(alloc, from, most, item)
 }
 
-// A member of a list, and whether the list goes on behind it.
-fn member<I: Item>(alloc: Global, from: &mut Cursor<'_>, item: &I) -> Result<(I::Out, bool), Stop>
-    ensures { Gives result (member_at (I.item_at item.now) from.old) from.new }
+// Puts a member behind those found, and says whether the list goes on behind it.
+fn add<I: Item>(
+    alloc: Global,
+    from: &mut Cursor<'_>,
+    item: &I,
+    found: &mut Items<I::Out>,
+) -> Result<bool, Stop>
+    ensures { Adds result (member_at (I.item_at item.now) from.old) found.old found.new from.new }
 {
-    let member = item.read(alloc, from)?;
+    let next = item.read(alloc, from)?;
     let goes_on = from.more()?;
-    Ok((member, goes_on))
+    found.push(next)?;
+    Ok(goes_on)
 }
 
 // Members up to the closing parenthesis. Each takes a byte at least, so that none is left behind so many.
@@ -165,8 +171,7 @@ fn items<I: Item>(
 {
     let mut found = Items::new(alloc);
     for _ in 0..most {
-        let (next, goes_on) = member(alloc, from, item)?;
-        found.push(next)?;
+        let goes_on = add(alloc, from, item, &mut found)?;
         if !goes_on {
             return Ok(found);
         }
@@ -226,8 +231,7 @@ fn forms(alloc: Global, from: &mut Cursor<'_>, most: usize, depth: u8) -> Result
 {
     let mut found = Items::new(alloc);
     for _ in 0..most {
-        let (next, goes_on) = next_form(alloc, from, depth)?;
-        found.push(next)?;
+        let goes_on = add_form(alloc, from, depth, &mut found)?;
         if !goes_on {
             return Ok(found);
         }
@@ -235,14 +239,20 @@ fn forms(alloc: Global, from: &mut Cursor<'_>, most: usize, depth: u8) -> Result
     Err(Stop::Bad(from.fault(WktCause::Truncated)))
 }
 
-// A member of a collection, and whether the collection goes on behind it.
+// Puts a member of a collection behind those found, and says whether the collection goes on behind it.
 #[cycle(geometries)]
-fn next_form(alloc: Global, from: &mut Cursor<'_>, depth: u8) -> Result<(Form, bool), Stop>
-    ensures { Gives result (member_at (geometry_at (members_at depth)) from.old) from.new }
+fn add_form(
+    alloc: Global,
+    from: &mut Cursor<'_>,
+    depth: u8,
+    found: &mut Members,
+) -> Result<bool, Stop>
+    ensures { Adds result (member_at (geometry_at (members_at depth)) from.old) found.old found.new from.new }
 {
     let form = geometry(alloc, from, depth)?;
     let goes_on = from.more()?;
-    Ok((form, goes_on))
+    found.push(form)?;
+    Ok(goes_on)
 }
 
 // Nothing but blanks stands behind a geometry.

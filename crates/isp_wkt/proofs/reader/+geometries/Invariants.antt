@@ -16,5 +16,5 @@ decreases-members l = 4 * l.depth + 2
 abbrev pub decreases-forms : goal.decreases-forms
 decreases-forms l = 4 * l.depth + 5
 
-abbrev pub decreases-next_form : goal.decreases-next_form
-decreases-next_form l = 4 * l.depth + 4
+abbrev pub decreases-add_form : goal.decreases-add_form
+decreases-add_form l = 4 * l.depth + 4

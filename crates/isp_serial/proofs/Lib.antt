@@ -1,0 +1,5 @@
+pub mod AloneFits
+pub mod AloneLaws
+pub mod AloneSerial
+pub mod GivenLaws
+pub mod SpellingLaws

@@ -1,6 +1,0 @@
-use Rattle.std.proofs.Common.{◌≡◌, drop}
-use Rattle.isp_sql.specs.Words.{word_in}
-use Rattle.isp_sql.proofs.words.word_in.Given as goal
-
-abbrev pub invariant-loop-word : goal.invariant-loop-word
-invariant-loop-word l = word_in (drop l.word-index l.words) l.text ≡ word_in l.words l.text
