@@ -6,14 +6,14 @@ use Rattle.std.proofs.lemmas.List.{length-map}
 use Rattle.isp_mbr.specs.Corners.{Corners}
 use Rattle.isp_mbr.specs.Boxes.{IsBox, covers, union}
 use Rattle.isp_mbr.proofs.BoxLaws.{covers_trans, union_covers_left, union_covers_right, union_least, IsBox-union}
-use Rattle.isp_rnode.specs.declared.entry.Entry.{Entry}
-use Rattle.isp_rnode.specs.declared.entry.To.TheVariants.{Row}
-use Rattle.isp_rnode.specs.Lists.{Has, times}
-use Rattle.isp_rnode.specs.Tree.{Page, Tree, page_at, child_of, children}
-use Rattle.isp_rnode.specs.Forest.{Forest, IsBelow, IsPage}
-use Rattle.isp_rnode.specs.Walk.{Links}
-use Rattle.isp_machine.specs.Steps.{is_among, names, is_last, widened, added_to, add}
-use Rattle.isp_machine.specs.Place.{Names, IsPath, EndsOnLeaf, Stands}
+use Rattle.isp_forest.specs.declared.entry.Entry.{Entry}
+use Rattle.isp_forest.specs.declared.entry.To.TheVariants.{Row}
+use Rattle.isp_base.specs.Lists.{Has, times}
+use Rattle.isp_forest.specs.Tree.{Node, Tree, page_at, child_of, children}
+use Rattle.isp_forest.specs.Forest.{Forest, IsBelow, IsPage}
+use Rattle.isp_forest.specs.Walk.{Links}
+use Rattle.isp_forest.specs.Steps.{is_among, names, is_last, widened, added_to, add}
+use Rattle.isp_forest.specs.Place.{Names, IsPath, EndsOnLeaf, Stands}
 use Rattle.isp_laws.proofs.ListLaws.{Has-append, Has-map, Source, times-append}
 use Rattle.isp_laws.proofs.EntryLaws.{children-append, children-map}
 use Rattle.isp_laws.proofs.ForestLaws.{named_not_root, one_parent, same_page}
@@ -50,13 +50,13 @@ last_among (p ∷ r ∷ rest) q h = let i : is_among (r ∷ rest) q ≡ true = l
     or_true true = refl
     or_true false = refl
 
-last_is_leaf : (tree : Tree) (path : List ℕ) (q : ℕ) (page : Page) → EndsOnLeaf tree path → is_last path q ≡ true → page_at tree q ≡ Some page → page.level ≡ 0
+last_is_leaf : (tree : Tree) (path : List ℕ) (q : ℕ) (page : Node) → EndsOnLeaf tree path → is_last path q ≡ true → page_at tree q ≡ Some page → page.level ≡ 0
 last_is_leaf tree [] q page leaf h there = absurd leaf
 last_is_leaf tree (p ∷ []) q page leaf h there =
     let here : p ≡ q = eqb-true p q h in
     let at_q : page_at tree q ≡ Some leaf.0 = subst (λ (x : ℕ). page_at tree x ≡ Some leaf.0) here leaf.1 in
     let same : page ≡ leaf.0 = same_page (page_at tree q) page leaf.0 there at_q in
-    ap (λ (x : Page). x.level) same ∙ leaf.2
+    ap (λ (x : Node). x.level) same ∙ leaf.2
 last_is_leaf tree (p ∷ r ∷ rest) q page leaf h there = last_is_leaf tree (r ∷ rest) q page leaf h there
 
 record Previous (tree : Tree) (path : List ℕ) (r : ℕ) : Type 0 where
@@ -119,7 +119,7 @@ abbrev is_widened : List ℕ → Entry → Bool
 is_widened path e = names (is_among path) (child_of e)
 
 -- an entry of a page after the step: one that was there, grown or not, or the new one on the last page of the path
-pub record WasThere (path : List ℕ) (box : Corners) (page : Page) (e : Entry) : Type 0 where
+pub record WasThere (path : List ℕ) (box : Corners) (page : Node) (e : Entry) : Type 0 where
   pub old : Entry
   pub has : Has page.entries old
   pub is : widened path box old ≡ e
@@ -133,7 +133,7 @@ new_at path box key number q e true t (inl same) = record { last = t; is = same 
 new_at path box key number q e true t (inr none) = absurd none
 new_at path box key number q e false t h = absurd h
 
-pub entry_of : (path : List ℕ) (box : Corners) (key : ℤ) (number q : ℕ) (page : Page) (e : Entry) → Has (added_to path box key number q page).entries e
+pub entry_of : (path : List ℕ) (box : Corners) (key : ℤ) (number q : ℕ) (page : Node) (e : Entry) → Has (added_to path box key number q page).entries e
     → WasThere path box page e ⊎ IsNew path box key number q e
 entry_of path box key number q page e h =
     elim (Has-append (map (widened path box) page.entries) (fresh (is_last path q) box key number) e h) [
@@ -142,7 +142,7 @@ entry_of path box key number q page e h =
     ]
 
 -- an entry that names a page was there
-pub naming_entry : (path : List ℕ) (box : Corners) (key : ℤ) (number q c : ℕ) (page : Page) (e : Entry) → Has (added_to path box key number q page).entries e
+pub naming_entry : (path : List ℕ) (box : Corners) (key : ℤ) (number q c : ℕ) (page : Node) (e : Entry) → Has (added_to path box key number q page).entries e
     → child_of e ≡ Some c → WasThere path box page e
 naming_entry path box key number q c page e h to =
     elim (entry_of path box key number q page e h) [
@@ -176,11 +176,11 @@ add-fits tree path box key number forest stands is_box = record {
     on_path : (q : ℕ) (e : Entry) → child_of e ≡ Some q → is_widened path e ≡ is_among path q
     on_path q e to = ap (names (is_among path)) to
 
-    grows_too : (q : ℕ) (b : Page) (g : Entry) → page_at tree q ≡ Some b → Has b.entries g → (o : Option ℕ) → child_of g ≡ o → names (is_among path) o ≡ true → is_among path q ≡ true
+    grows_too : (q : ℕ) (b : Node) (g : Entry) → page_at tree q ≡ Some b → Has b.entries g → (o : Option ℕ) → child_of g ≡ o → names (is_among path) o ≡ true → is_among path q ≡ true
     grows_too q b g k has None to h = cc
     grows_too q b g k has (Some r) to h = above_on_path tree forest path stands q r g (record { page = b; there = k; has = has; to = to }) h
 
-    below_at : (p q : ℕ) (a b : Page) (old g : Entry) → page_at tree p ≡ Some a → Has a.entries old → child_of old ≡ Some q → page_at tree q ≡ Some b → IsBelow old a b
+    below_at : (p q : ℕ) (a b : Node) (old g : Entry) → page_at tree p ≡ Some a → Has a.entries old → child_of old ≡ Some q → page_at tree q ≡ Some b → IsBelow old a b
         → Has (added_to path box key number q b).entries g → covers (widened path box old).b g.b ≡ true
     below_at p q a b old g h has to k is hg =
         elim (entry_of path box key number q b g hg) [

@@ -7,11 +7,11 @@ use Rattle.std.proofs.lemmas.Int.{ints}
 use Rattle.isp_mbr.specs.Corners.{Corners}
 use Rattle.isp_mbr.specs.Boxes.{IsBox, covers}
 use Rattle.isp_mbr.proofs.BoxLaws.{both}
-use Rattle.isp_rnode.specs.declared.entry.Entry.{Entry}
-use Rattle.isp_rnode.specs.Lists.{Has, times}
-use Rattle.isp_rnode.specs.Tree.{Page, Tree, page_in, page_at, counter, child_of, numbers, named}
-use Rattle.isp_rnode.specs.Forest.{Forest, IsBelow, IsPage, IsLinked}
-use Rattle.isp_rnode.specs.Walk.{right_of, link, EndsAfter, Links}
+use Rattle.isp_forest.specs.declared.entry.Entry.{Entry}
+use Rattle.isp_base.specs.Lists.{Has, times}
+use Rattle.isp_forest.specs.Tree.{Node, Tree, page_in, page_at, counter, child_of, numbers, named}
+use Rattle.isp_forest.specs.Forest.{Forest, IsBelow, IsPage, IsLinked}
+use Rattle.isp_forest.specs.Walk.{right_of, link, EndsAfter, Links}
 use Rattle.isp_laws.proofs.ListLaws.{times-append, times-same}
 
 -- ---- lists
@@ -21,11 +21,11 @@ has_all t [] x h k = absurd k
 has_all t (z ∷ xs) x h (inl same) = let h' : (t z ≡ true) × (list_all t xs ≡ true) = both (t z) (list_all t xs) h in ap t (sym same) ∙ h'.0
 has_all t (z ∷ xs) x h (inr k) = let h' : (t z ≡ true) × (list_all t xs ≡ true) = both (t z) (list_all t xs) h in has_all t xs x h'.1 k
 
-abbrev pub AllPages : (ℕ → Page → Type 0) → List (ℕ × Page) → Type 0
+abbrev pub AllPages : (ℕ → Node → Type 0) → List (ℕ × Node) → Type 0
 AllPages P [] = Unit {0}
 AllPages P (p ∷ rest) = P p.0 p.1 × AllPages P rest
 
-pub each_page : (P : ℕ → Page → Type 0) (m : List (ℕ × Page)) → AllPages P m → (q : ℕ) (page : Page) → page_in m q ≡ Some page → P q page
+pub each_page : (P : ℕ → Node → Type 0) (m : List (ℕ × Node)) → AllPages P m → (q : ℕ) (page : Node) → page_in m q ≡ Some page → P q page
 each_page P [] h q page there = let no : ⊥ = cc in absurd no
 each_page P (p ∷ rest) h q page there =
     elim (p.0 == q) as (λ b. (p.0 == q) ≡ b → cond b (Some p.1) (page_in rest q) ≡ Some page → P q page) [
@@ -33,7 +33,7 @@ each_page P (p ∷ rest) h q page there =
       | false ↦ λ t k. each_page P rest h.1 q page k
     ] refl there
 
-pub all_pages : (t : ℕ → Page → Bool) (m : List (ℕ × Page)) → list_all (λ p. t p.0 p.1) m ≡ true → AllPages (λ q page. t q page ≡ true) m
+pub all_pages : (t : ℕ → Node → Bool) (m : List (ℕ × Node)) → list_all (λ p. t p.0 p.1) m ≡ true → AllPages (λ q page. t q page ≡ true) m
 all_pages t [] h = tt
 all_pages t (p ∷ rest) h = let h' : (t p.0 p.1 ≡ true) × (list_all (λ x. t x.0 x.1) rest ≡ true) = both (t p.0 p.1) (list_all (λ x. t x.0 x.1) rest) h in (h'.0, all_pages t rest h'.1)
 
@@ -47,7 +47,7 @@ same_bool true c = c
 same_bool false true = false
 same_bool false false = true
 
-abbrev pub is_round : Corners → ℕ → Option Page → Bool
+abbrev pub is_round : Corners → ℕ → Option Node → Bool
 is_round b level None = true
 is_round b level (Some below) = (level == suc below.level) && list_all (λ f. covers b f.b) below.entries
 
@@ -58,7 +58,7 @@ names_below tree level b (Some q) = is_round b level (page_at tree q)
 abbrev pub entry_fits : Tree → ℕ → Entry → Bool
 entry_fits tree level e = same_bool (is_none (child_of e)) (level == 0) && (is_box e.b && names_below tree level e.b (child_of e))
 
-abbrev pub has_level : ℕ → Option Page → Bool
+abbrev pub has_level : ℕ → Option Node → Bool
 has_level level None = false
 has_level level (Some page) = page.level == level
 
@@ -66,7 +66,7 @@ abbrev pub link_fits : Tree → ℕ → Option ℕ → Bool
 link_fits tree level None = true
 link_fits tree level (Some r) = has_level level (page_at tree r)
 
-abbrev pub page_fits : Tree → ℕ → Page → Bool
+abbrev pub page_fits : Tree → ℕ → Node → Bool
 page_fits tree q page =
     list_all (entry_fits tree page.level) page.entries && (((page.level == 0) || nat_le (cond (q == tree.root) 1 2) (length page.entries)) && (nat_le page.ssn (counter tree) && link_fits tree page.level page.next))
 
@@ -80,14 +80,14 @@ same_bools true c h = sym h
 same_bools false true h = cc
 same_bools false false h = refl
 
-below_at : (e : Entry) (above below : Page) (o : Option Page) → o ≡ Some below → is_round e.b above.level o ≡ true → IsBelow e above below
+below_at : (e : Entry) (above below : Node) (o : Option Node) → o ≡ Some below → is_round e.b above.level o ≡ true → IsBelow e above below
 below_at e above below None h k = let no : ⊥ = cc in absurd no
 below_at e above below (Some page) h k =
     let same : page ≡ below = cc in
     let k' : ((above.level == suc page.level) ≡ true) × (list_all (λ f. covers e.b f.b) page.entries ≡ true) = both (above.level == suc page.level) (list_all (λ f. covers e.b f.b) page.entries) k in
     subst (IsBelow e above) same (record { level = eqb-true above.level (suc page.level) k'.0; inside = λ f hf. has_all (λ x. covers e.b x.b) page.entries f k'.1 hf })
 
-linked_at : (tree : Tree) (page : Page) (r : ℕ) (o : Option Page) → page_at tree r ≡ o → has_level page.level o ≡ true → IsLinked tree page r
+linked_at : (tree : Tree) (page : Node) (r : ℕ) (o : Option Node) → page_at tree r ≡ o → has_level page.level o ≡ true → IsLinked tree page r
 linked_at tree page r None h k = cc
 linked_at tree page r (Some right) h k = record { right = right; there = h; level = eqb-true right.level page.level k }
 
@@ -95,12 +95,12 @@ filled_at : (b : Bool) (n k level : ℕ) → (b ≡ true → level ≡ 0) → (b
 filled_at true n k level f h inner = let z : level ≡ 0 = f refl in omega arith
 filled_at false n k level f h inner = grind (arith, nat_tests)
 
-record Fits (tree : Tree) (q : ℕ) (page : Page) : Type 0 where
+record Fits (tree : Tree) (q : ℕ) (page : Node) : Type 0 where
   is : IsPage tree q page
-  below : (e : Entry) → Has page.entries e → (r : ℕ) (b : Page) → child_of e ≡ Some r → page_at tree r ≡ Some b → IsBelow e page b
+  below : (e : Entry) → Has page.entries e → (r : ℕ) (b : Node) → child_of e ≡ Some r → page_at tree r ≡ Some b → IsBelow e page b
   linked : (r : ℕ) → page.next ≡ Some r → IsLinked tree page r
 
-fits_of : (tree : Tree) (q : ℕ) (page : Page) → page_fits tree q page ≡ true → Fits tree q page
+fits_of : (tree : Tree) (q : ℕ) (page : Node) → page_fits tree q page ≡ true → Fits tree q page
 fits_of tree q page h =
     let a : (list_all (entry_fits tree page.level) page.entries ≡ true) × ((((page.level == 0) || nat_le (cond (q == tree.root) 1 2) (length page.entries)) && (nat_le page.ssn (counter tree) && link_fits tree page.level page.next)) ≡ true) = both (list_all (entry_fits tree page.level) page.entries) (((page.level == 0) || nat_le (cond (q == tree.root) 1 2) (length page.entries)) && (nat_le page.ssn (counter tree) && link_fits tree page.level page.next)) h in
     let b : ((((page.level == 0) || nat_le (cond (q == tree.root) 1 2) (length page.entries))) ≡ true) × ((nat_le page.ssn (counter tree) && link_fits tree page.level page.next) ≡ true) = both ((page.level == 0) || nat_le (cond (q == tree.root) 1 2) (length page.entries)) (nat_le page.ssn (counter tree) && link_fits tree page.level page.next) a.1 in
@@ -126,7 +126,7 @@ fits_of tree q page h =
     at_most : (n k : ℕ) → nat_le n k ≡ true → n ≤ k
     at_most n k t = grind (arith, nat_tests)
 
-pub forest_by_tests : (tree : Tree) (top : Page) → page_at tree tree.root ≡ Some top → top.next ≡ None → ((q : ℕ) → times q (numbers tree.pages) ≤ 1)
+pub forest_by_tests : (tree : Tree) (top : Node) → page_at tree tree.root ≡ Some top → top.next ≡ None → ((q : ℕ) → times q (numbers tree.pages) ≤ 1)
     → ((q : ℕ) → times q (tree.root ∷ named tree.pages) ≡ times q (numbers tree.pages)) → list_all (λ p. page_fits tree p.0 p.1) tree.pages ≡ true → Forest tree
 forest_by_tests tree top rooted alone once by_one tests = record {
   top = top;
@@ -139,7 +139,7 @@ forest_by_tests tree top rooted alone once by_one tests = record {
   linked = λ q r page there next. (let f : Fits tree q page = fits q page there in f.linked r next);
 }
   where
-    fits : (q : ℕ) (page : Page) → page_at tree q ≡ Some page → Fits tree q page
+    fits : (q : ℕ) (page : Node) → page_at tree q ≡ Some page → Fits tree q page
     fits q page there = fits_of tree q page (each_page (λ x y. page_fits tree x y ≡ true) tree.pages (all_pages (page_fits tree) tree.pages tests) q page there)
 
 -- ---- numbers that stand once
@@ -167,12 +167,12 @@ abbrev pub target : Option ℕ → List ℕ
 target None = []
 target (Some q) = q ∷ []
 
-abbrev pub targets : List (ℕ × Page) → List ℕ
+abbrev pub targets : List (ℕ × Node) → List ℕ
 targets [] = []
 targets (p ∷ rest) = target p.1.next ++ targets rest
 
 -- a page whose link leads to r adds r to the targets
-times_target : (m : List (ℕ × Page)) (p r : ℕ) → right_of (page_in m p) ≡ Some r → 0 < times r (targets m)
+times_target : (m : List (ℕ × Node)) (p r : ℕ) → right_of (page_in m p) ≡ Some r → 0 < times r (targets m)
 times_target [] p r h = cc
 times_target (x ∷ rest) p r h =
     elim (x.0 == p) as (λ b. right_of (cond b (Some x.1) (page_in rest p)) ≡ Some r → 0 < times r (target x.1.next ++ targets rest)) [
@@ -180,7 +180,7 @@ times_target (x ∷ rest) p r h =
       | false ↦ λ k. (let i : 0 < times r (targets rest) = times_target rest p r k in omega (arith, times-append r (target x.1.next) (targets rest)))
     ] h
 
-times_targets : (m : List (ℕ × Page)) (p q r : ℕ) → right_of (page_in m p) ≡ Some r → right_of (page_in m q) ≡ Some r → (p == q) ≡ false → 2 ≤ times r (targets m)
+times_targets : (m : List (ℕ × Node)) (p q r : ℕ) → right_of (page_in m p) ≡ Some r → right_of (page_in m q) ≡ Some r → (p == q) ≡ false → 2 ≤ times r (targets m)
 times_targets [] p q r h k other = cc
 times_targets (x ∷ rest) p q r h k other =
     elim (x.0 == p) as (λ b. (x.0 == p) ≡ b → right_of (cond b (Some x.1) (page_in rest p)) ≡ Some r → 2 ≤ times r (target x.1.next ++ targets rest)) [

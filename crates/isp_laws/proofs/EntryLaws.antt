@@ -9,12 +9,12 @@ use Rattle.std.proofs.lemmas.List.Sums.{sum_by-cons}
 use Rattle.isp_mbr.specs.Corners.{Corners}
 use Rattle.isp_mbr.specs.Boxes.{IsBox, covers, union}
 use Rattle.isp_mbr.proofs.BoxLaws.{covers_refl, covers_trans, union_covers_left, union_covers_right, union_least, IsBox-union}
-use Rattle.isp_rnode.specs.declared.entry.Entry.{Entry}
-use Rattle.isp_rnode.specs.declared.entry.To.{To}
-use Rattle.isp_rnode.specs.declared.entry.To.TheVariants.{Child, Row}
-use Rattle.isp_rnode.specs.Lists.{Has, times}
-use Rattle.isp_rnode.specs.Tree.{child_in, child_of, children, around, least}
-use Rattle.isp_machine.specs.Steps.{is_row}
+use Rattle.isp_forest.specs.declared.entry.Entry.{Entry}
+use Rattle.isp_forest.specs.declared.entry.To.{To}
+use Rattle.isp_forest.specs.declared.entry.To.TheVariants.{Child, Row}
+use Rattle.isp_base.specs.Lists.{Has, times}
+use Rattle.isp_forest.specs.Tree.{child_in, child_of, children, around, least}
+use Rattle.isp_forest.specs.Steps.{is_row}
 use Rattle.isp_laws.proofs.ListLaws.{times-Has}
 
 -- ---- the pages that entries name

@@ -1,8 +1,8 @@
 -- The examples, by computation.
 use Rattle.std.proofs.Common.{◌≡◌, inl, inr, ℕ, List, [], ◌∷◌, refl, sym, subst}
-use Rattle.isp_rnode.specs.Lists.{Has}
-use Rattle.isp_rnode.specs.Tree.{numbers}
-use Rattle.isp_rnode.specs.Walk.{LinkedForest}
+use Rattle.isp_base.specs.Lists.{Has}
+use Rattle.isp_forest.specs.Tree.{numbers}
+use Rattle.isp_forest.specs.Walk.{LinkedForest}
 use Rattle.isp_laws.specs.Examples.{four_points, five_points, seven_points, ExamplesFit, numbers_exchanged, right_link_lost, WrongSplitsMiss}
 use Rattle.isp_laws.specs.SearchExamples.{SearchesFit}
 use Rattle.isp_laws.proofs.CheckLaws.{forest_by_tests, links_by_tests, once_by_test}

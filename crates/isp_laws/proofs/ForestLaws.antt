@@ -3,12 +3,12 @@ use Rattle.std.proofs.Common.{◌≡◌, ◌⊎◌, inl, inr, ℕ, zero, suc, �
 use Rattle.std.proofs.lemmas.Bool.Decides.{nat_tests}
 use Rattle.isp_mbr.specs.Boxes.{covers}
 use Rattle.isp_mbr.proofs.BoxLaws.{covers_trans}
-use Rattle.isp_rnode.specs.declared.entry.Entry.{Entry}
-use Rattle.isp_rnode.specs.Lists.{Has, times}
-use Rattle.isp_rnode.specs.Tree.{Page, Tree, page_in, page_at, counter, ssn_of, child_of, children, numbers, named}
-use Rattle.isp_rnode.specs.Forest.{Forest, IsBelow, IsLinked}
-use Rattle.isp_machine.specs.Steps.{is_last}
-use Rattle.isp_machine.specs.Place.{Names, IsPath}
+use Rattle.isp_forest.specs.declared.entry.Entry.{Entry}
+use Rattle.isp_base.specs.Lists.{Has, times}
+use Rattle.isp_forest.specs.Tree.{Node, Tree, page_in, page_at, counter, ssn_of, child_of, children, numbers, named}
+use Rattle.isp_forest.specs.Forest.{Forest, IsBelow, IsLinked}
+use Rattle.isp_forest.specs.Steps.{is_last}
+use Rattle.isp_forest.specs.Place.{Names, IsPath}
 use Rattle.isp_laws.proofs.ListLaws.{times-append, Has-times, times-other, times-same}
 use Rattle.isp_laws.proofs.PageLaws.{times_there, times_free, There, there_of_times, times_of_page, times_of_two}
 use Rattle.isp_laws.proofs.EntryLaws.{times-children, Naming, naming}
@@ -17,7 +17,7 @@ pub counter_is : (tree : Tree) (f : Forest tree) → counter tree ≡ f.top.ssn
 counter_is tree f = ap ssn_of f.rooted
 
 -- a number that was found is a number
-pub same_page : (o : Option Page) (a b : Page) → o ≡ Some a → o ≡ Some b → a ≡ b
+pub same_page : (o : Option Node) (a b : Node) → o ≡ Some a → o ≡ Some b → a ≡ b
 same_page o a b h k = cc
 
 -- ---- who names whom
@@ -71,15 +71,15 @@ one_parent tree f p p' q e e' n n' =
 
 -- ---- each page but the root has a page above it
 
-record Parent (m : List (ℕ × Page)) (q : ℕ) : Type 0 where
+record Parent (m : List (ℕ × Node)) (q : ℕ) : Type 0 where
   p : ℕ
-  page : Page
+  page : Node
   there : page_in m p ≡ Some page
   e : Entry
   has : Has page.entries e
   to : child_of e ≡ Some q
 
-apart_of : (x p : ℕ) (m : List (ℕ × Page)) (page : Page) → ((r : ℕ) → times r (x ∷ numbers m) ≤ 1) → page_in m p ≡ Some page → (x == p) ≡ false
+apart_of : (x p : ℕ) (m : List (ℕ × Node)) (page : Node) → ((r : ℕ) → times r (x ∷ numbers m) ≤ 1) → page_in m p ≡ Some page → (x == p) ≡ false
 apart_of x p m page once there =
     elim (x == p) as (λ b. (x == p) ≡ b → b ≡ false) [
       | true ↦ λ t. (let two : times p (x ∷ numbers m) ≡ suc (times p (numbers m)) = rw t (omega arith) in
@@ -90,7 +90,7 @@ apart_of x p m page once there =
 once_less : (x : ℕ) (ns : List ℕ) → ((r : ℕ) → times r (x ∷ ns) ≤ 1) → (r : ℕ) → times r ns ≤ 1
 once_less x ns once r = let h : times r (x ∷ ns) ≤ 1 = once r in omega arith
 
-parent_in : (m : List (ℕ × Page)) (q : ℕ) → ((r : ℕ) → times r (numbers m) ≤ 1) → 0 < times q (named m) → Parent m q
+parent_in : (m : List (ℕ × Node)) (q : ℕ) → ((r : ℕ) → times r (numbers m) ≤ 1) → 0 < times q (named m) → Parent m q
 parent_in [] q once some = let no : ⊥ = omega arith in absurd no
 parent_in (x ∷ rest) q once some =
     elim (there_is_one (times q (children x.1.entries))) [
@@ -112,7 +112,7 @@ pub record Above (tree : Tree) (q : ℕ) : Type 0 where
   pub e : Entry
   pub names : Names tree p q e
 
-pub above : (tree : Tree) → Forest tree → (q : ℕ) (page : Page) → page_at tree q ≡ Some page → (q == tree.root) ≡ false → Above tree q
+pub above : (tree : Tree) → Forest tree → (q : ℕ) (page : Node) → page_at tree q ≡ Some page → (q == tree.root) ≡ false → Above tree q
 above tree f q page there other =
     let other' : (tree.root == q) ≡ false = grind (arith, nat_tests) in
     let some : 0 < times q (named tree.pages) = omega (arith, f.by_one q, times_there tree.pages q page there, times-other q tree.root (named tree.pages) other') in
@@ -121,20 +121,20 @@ above tree f q page there other =
 
 -- ---- the root is alone on its level
 
-abbrev pub highest : List (ℕ × Page) → ℕ
+abbrev pub highest : List (ℕ × Node) → ℕ
 highest [] = 0
 highest (p ∷ rest) = max p.1.level (highest rest)
 
-level_at_most : (m : List (ℕ × Page)) (q : ℕ) (page : Page) → page_in m q ≡ Some page → page.level ≤ highest m
+level_at_most : (m : List (ℕ × Node)) (q : ℕ) (page : Node) → page_in m q ≡ Some page → page.level ≤ highest m
 level_at_most [] q page h = let no : ⊥ = cc in absurd no
 level_at_most (p ∷ rest) q page h =
     elim (p.0 == q) as (λ b. cond b (Some p.1) (page_in rest q) ≡ Some page → page.level ≤ max p.1.level (highest rest)) [
-      | true ↦ λ k. (let same : p.1 ≡ page = cc in let P : Page → Type 0 = λ x. x.level ≤ max p.1.level (highest rest) in subst P same (omega arith))
+      | true ↦ λ k. (let same : p.1 ≡ page = cc in let P : Node → Type 0 = λ x. x.level ≤ max p.1.level (highest rest) in subst P same (omega arith))
       | false ↦ λ k. (let i : page.level ≤ highest rest = level_at_most rest q page k in omega arith)
     ] h
 
 -- a page is the root or below it
-below_root_in : (tree : Tree) (f : Forest tree) (k q : ℕ) (page : Page) → page_at tree q ≡ Some page → highest tree.pages ≤ page.level + k → (q ≡ tree.root) ⊎ (page.level < f.top.level)
+below_root_in : (tree : Tree) (f : Forest tree) (k q : ℕ) (page : Node) → page_at tree q ≡ Some page → highest tree.pages ≤ page.level + k → (q ≡ tree.root) ⊎ (page.level < f.top.level)
 below_root_in tree f zero q page there high =
     elim (q == tree.root) as (λ b. (q == tree.root) ≡ b → (q ≡ tree.root) ⊎ (page.level < f.top.level)) [
       | true ↦ λ t. inl (eqb-true q tree.root t)
@@ -152,28 +152,28 @@ below_root_in tree f (suc k) q page there high =
           elim (below_root_in tree f k a.p a.names.page a.names.there high') [
             | inl root ↦ (let at_root : page_at tree tree.root ≡ Some a.names.page = subst (λ (x : ℕ). page_at tree x ≡ Some a.names.page) root a.names.there in
                 let same : a.names.page ≡ f.top = same_page (page_at tree tree.root) a.names.page f.top at_root f.rooted in
-                let P : Page → Type 0 = λ x. x.level ≡ suc page.level in
+                let P : Node → Type 0 = λ x. x.level ≡ suc page.level in
                 let level' : f.top.level ≡ suc page.level = subst P same level in inr (omega arith))
             | inr less ↦ inr (omega arith)
           ])
     ] refl
 
-pub below_root : (tree : Tree) (f : Forest tree) (q : ℕ) (page : Page) → page_at tree q ≡ Some page → (q ≡ tree.root) ⊎ (page.level < f.top.level)
+pub below_root : (tree : Tree) (f : Forest tree) (q : ℕ) (page : Node) → page_at tree q ≡ Some page → (q ≡ tree.root) ⊎ (page.level < f.top.level)
 below_root tree f q page there = below_root_in tree f (highest tree.pages) q page there (omega arith)
 
-pub alone_on_level : (tree : Tree) (f : Forest tree) (q : ℕ) (page : Page) → page_at tree q ≡ Some page → page.level ≡ f.top.level → q ≡ tree.root
+pub alone_on_level : (tree : Tree) (f : Forest tree) (q : ℕ) (page : Node) → page_at tree q ≡ Some page → page.level ≡ f.top.level → q ≡ tree.root
 alone_on_level tree f q page there level = elim (below_root tree f q page there) [ inl root ↦ root | inr less ↦ (let no : ⊥ = omega arith in absurd no) ]
 
 -- no right link leads to the root
-pub no_link_to_root : (tree : Tree) → Forest tree → (q : ℕ) (page : Page) → page_at tree q ≡ Some page → page.next ≡ Some tree.root → ⊥
+pub no_link_to_root : (tree : Tree) → Forest tree → (q : ℕ) (page : Node) → page_at tree q ≡ Some page → page.next ≡ Some tree.root → ⊥
 no_link_to_root tree f q page there next =
     let is : IsLinked tree page tree.root = f.linked q tree.root page there next in
     let same : is.right ≡ f.top = same_page (page_at tree tree.root) is.right f.top is.there f.rooted in
-    let level : page.level ≡ f.top.level = sym is.level ∙ ap (λ (x : Page). x.level) same in
+    let level : page.level ≡ f.top.level = sym is.level ∙ ap (λ (x : Node). x.level) same in
     let root : q ≡ tree.root = alone_on_level tree f q page there level in
     let at_root : page_at tree tree.root ≡ Some page = subst (λ (x : ℕ). page_at tree x ≡ Some page) root there in
     let same' : page ≡ f.top = same_page (page_at tree tree.root) page f.top at_root f.rooted in
-    let none : page.next ≡ None = ap (λ (x : Page). x.next) same' ∙ f.alone in
+    let none : page.next ≡ None = ap (λ (x : Node). x.next) same' ∙ f.alone in
     cc
 
 -- ---- boxes on the way down
@@ -182,7 +182,7 @@ last_at : (q leaf : ℕ) → is_last (q ∷ []) leaf ≡ true → q ≡ leaf
 last_at q leaf h = eqb-true q leaf h
 
 -- the entry on the first page for the second covers every entry on the last page
-pub covers_down : (tree : Tree) → Forest tree → (p q : ℕ) (rest : List ℕ) (d : Entry) (last : ℕ) (page : Page) (e : Entry)
+pub covers_down : (tree : Tree) → Forest tree → (p q : ℕ) (rest : List ℕ) (d : Entry) (last : ℕ) (page : Node) (e : Entry)
     → Names tree p q d → IsPath tree (q ∷ rest) → is_last (q ∷ rest) last ≡ true → page_at tree last ≡ Some page → Has page.entries e → covers d.b e.b ≡ true
 covers_down tree f p q [] d last page e n path at there has =
     let there' : page_at tree q ≡ Some page = subst (λ (x : ℕ). page_at tree x ≡ Some page) (sym (last_at q last at)) there in

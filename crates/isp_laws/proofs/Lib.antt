@@ -12,3 +12,5 @@ pub mod SplitWalkLaws
 pub mod PlaceLaws
 pub mod CheckLaws
 pub mod ExampleLaws
+pub mod OneLaws
+pub mod PartLaws

@@ -1,7 +1,7 @@
 -- What stands on lists that were joined, changed or filtered, and how often.
 use Rattle.std.proofs.Common.{◌≡◌, ◌⊎◌, inl, inr, ℕ, suc, ◌+◌, ◌<◌, ◌==◌, Bool, true, false, cond, List, [], ◌∷◌, ◌++◌, map, refl, ap, arith, eqb-true, eq-eqb}
 use Rattle.std.specs.Prelude.{filter}
-use Rattle.isp_rnode.specs.Lists.{Has, times}
+use Rattle.isp_base.specs.Lists.{Has, times}
 
 pub Has-append_left : {X : Type 0} (xs ys : List X) (x : X) → Has xs x → Has (xs ++ ys) x
 Has-append_left [] ys x h = absurd h

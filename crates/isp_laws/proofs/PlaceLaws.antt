@@ -3,12 +3,12 @@ use Rattle.std.proofs.Common.{◌≡◌, ℕ, Some, List, [], ◌∷◌, ◌++�
 use Rattle.std.proofs.lemmas.List.Sorted.{length_permutation}
 use Rattle.isp_mbr.specs.Corners.{Corners}
 use Rattle.isp_mbr.specs.Boxes.{IsBox}
-use Rattle.isp_rnode.specs.declared.entry.Entry.{Entry}
-use Rattle.isp_rnode.specs.Tree.{Page, Tree, page_at}
-use Rattle.isp_rnode.specs.Forest.{Forest}
-use Rattle.isp_rnode.specs.Walk.{Links, LinkedForest}
-use Rattle.isp_machine.specs.Steps.{add, raise, split}
-use Rattle.isp_machine.specs.Place.{Stands, IsFree, CanRaise, CanSplit, Division, relieve, CanRelieve, place}
+use Rattle.isp_forest.specs.declared.entry.Entry.{Entry}
+use Rattle.isp_forest.specs.Tree.{Node, Tree, page_at}
+use Rattle.isp_forest.specs.Forest.{Forest}
+use Rattle.isp_forest.specs.Walk.{Links, LinkedForest}
+use Rattle.isp_forest.specs.Steps.{add, raise, split}
+use Rattle.isp_forest.specs.Place.{Stands, IsFree, CanRaise, CanSplit, Division, relieve, CanRelieve, place}
 use Rattle.isp_laws.proofs.PageLaws.{page_in-put_same, page_in-put_other}
 use Rattle.isp_laws.proofs.ForestLaws.{same_page}
 use Rattle.isp_laws.proofs.AddLaws.{add_keeps, add_links}
@@ -30,7 +30,7 @@ can_raise tree forest q o n left right free can = record {
       let same : forest.top ≡ top = same_page (page_at tree tree.root) forest.top top forest.rooted rooted in
       let page : can.page ≡ moved forest.top = same_page (page_at (raise tree q) q) can.page (moved forest.top) can.there (raised_page tree forest q free) in
       let n : length (left ++ right) ≡ length can.page.entries = length_permutation can.page.entries (left ++ right) can.parts.all in
-      let entries : length can.page.entries ≡ length top.entries = ap (λ (x : Page). length x.entries) page ∙ ap (λ (x : Page). length x.entries) same in
+      let entries : length can.page.entries ≡ length top.entries = ap (λ (x : Node). length x.entries) page ∙ ap (λ (x : Node). length x.entries) same in
       omega (arith, n, entries, length-append left right, can.parts.left_some, can.parts.right_some));
 }
 

@@ -3,13 +3,13 @@ use Rattle.std.proofs.Common.{◌≡◌, ◌⊎◌, inl, inr, ℕ, suc, ◌+◌,
 use Rattle.std.specs.Prelude.{is_none, nat_lt}
 use Rattle.std.proofs.lemmas.Bool.Decides.{nat_tests}
 use Rattle.isp_mbr.specs.Boxes.{IsBox, covers}
-use Rattle.isp_rnode.specs.declared.entry.Entry.{Entry}
-use Rattle.isp_rnode.specs.Lists.{Has, times}
-use Rattle.isp_rnode.specs.Tree.{Page, Tree, page_in, page_at, counter, ssn_of, child_of, children, numbers, named, least}
-use Rattle.isp_rnode.specs.Forest.{Forest, IsBelow, IsPage, IsLinked}
-use Rattle.isp_rnode.specs.Walk.{split_since, onward, right_of, link, Links}
-use Rattle.isp_machine.specs.Steps.{put, entry_for, raised, raise}
-use Rattle.isp_machine.specs.Place.{Names, IsFree, CanRaise}
+use Rattle.isp_forest.specs.declared.entry.Entry.{Entry}
+use Rattle.isp_base.specs.Lists.{Has, times}
+use Rattle.isp_forest.specs.Tree.{Node, Tree, page_in, page_at, counter, ssn_of, child_of, children, numbers, named, least}
+use Rattle.isp_forest.specs.Forest.{Forest, IsBelow, IsPage, IsLinked}
+use Rattle.isp_forest.specs.Walk.{split_since, onward, right_of, link, Links}
+use Rattle.isp_forest.specs.Steps.{put, entry_for, raised, raise}
+use Rattle.isp_forest.specs.Place.{Names, IsFree, CanRaise}
 use Rattle.isp_laws.proofs.ListLaws.{times-append}
 use Rattle.isp_laws.proofs.PageLaws.{page_in-put_same, page_in-put_other, put_new, numbers-put, named-put, named-append, numbers-append, times_free}
 use Rattle.isp_laws.proofs.EntryLaws.{least_covers, IsBox-least}
@@ -18,15 +18,15 @@ use Rattle.isp_laws.proofs.WalkLaws.{links_same}
 
 -- ---- what a page is after `put`
 
-pub record IsPut (q x : ℕ) (page y : Page) : Type 0 where
+pub record IsPut (q x : ℕ) (page y : Node) : Type 0 where
   pub at : q ≡ x
   pub is : page ≡ y
 
-pub record IsOther (q x : ℕ) (m : List (ℕ × Page)) (y : Page) : Type 0 where
+pub record IsOther (q x : ℕ) (m : List (ℕ × Node)) (y : Node) : Type 0 where
   pub other : (q == x) ≡ false
   pub there : page_in m x ≡ Some y
 
-pub put_or_other : (q x : ℕ) (page y : Page) (m : List (ℕ × Page)) → page_in (put q page m) x ≡ Some y → IsPut q x page y ⊎ IsOther q x m y
+pub put_or_other : (q x : ℕ) (page y : Node) (m : List (ℕ × Node)) → page_in (put q page m) x ≡ Some y → IsPut q x page y ⊎ IsOther q x m y
 put_or_other q x page y m h =
     elim (q == x) as (λ b. (q == x) ≡ b → IsPut q x page y ⊎ IsOther q x m y) [
       | true ↦ λ t. (let at : q ≡ x = eqb-true q x t in
@@ -35,7 +35,7 @@ put_or_other q x page y m h =
       | false ↦ λ t. inr (record { other = t; there = sym (page_in-put_other q x page m t) ∙ h })
     ] refl
 
-pub apart : (m : List (ℕ × Page)) (p q : ℕ) (page : Page) → page_in m p ≡ Some page → page_in m q ≡ None → (p == q) ≡ false
+pub apart : (m : List (ℕ × Node)) (p q : ℕ) (page : Node) → page_in m p ≡ Some page → page_in m q ≡ None → (p == q) ≡ false
 apart m p q page there free =
     elim (p == q) as (λ b. (p == q) ≡ b → b ≡ false) [
       | true ↦ λ t. (let at : page_in m q ≡ Some page = subst (λ (z : ℕ). page_in m z ≡ Some page) (eqb-true p q t) there in let no : ⊥ = cc in absurd no)
@@ -47,13 +47,13 @@ turned p q h = grind (arith, nat_tests)
 
 -- ---- the raised tree
 
-abbrev pub lifted : Page → ℕ → Page
+abbrev pub lifted : Node → ℕ → Node
 lifted top q = record { level = suc top.level; ssn = top.ssn; next = None; entries = entry_for (least top.entries) q ∷ [] }
 
-abbrev pub moved : Page → Page
+abbrev pub moved : Node → Node
 moved top = record top { next = None }
 
-pub made : (tree : Tree) (q : ℕ) (top : Page) → page_at tree tree.root ≡ Some top → raise tree q ≡ raised tree q (Some top)
+pub made : (tree : Tree) (q : ℕ) (top : Node) → page_at tree tree.root ≡ Some top → raise tree q ≡ raised tree q (Some top)
 made tree q top rooted = ap (raised tree q) rooted
 
 abbrev pub one_if : Bool → ℕ
@@ -66,10 +66,10 @@ pub at_most_two : (b : Bool) (n : ℕ) → 2 ≤ n → cond b 1 2 ≤ n
 at_most_two true n h = omega arith
 at_most_two false n h = omega arith
 
-abbrev within : Tree → Page → ℕ → List (ℕ × Page)
+abbrev within : Tree → Node → ℕ → List (ℕ × Node)
 within tree top q = put q (moved top) tree.pages
 
-abbrev lifted_pages : Tree → Page → ℕ → List (ℕ × Page)
+abbrev lifted_pages : Tree → Node → ℕ → List (ℕ × Node)
 lifted_pages tree top q = put tree.root (lifted top q) (within tree top q)
 
 raised_forest : (tree : Tree) (forest : Forest tree) (q : ℕ) → CanRaise tree q → Forest (raised tree q (Some forest.top))
@@ -107,13 +107,13 @@ raised_forest tree forest q can = record {
     numbered : (x : ℕ) → times x (numbers (lifted_pages tree forest.top q)) ≡ times x (numbers tree.pages) + one_if (q == x)
     numbered x =
         let a : times x (numbers (lifted_pages tree forest.top q)) ≡ times x (numbers (within tree forest.top q)) = ap (times x) (numbers-put tree.root (lifted forest.top q) forest.top (within tree forest.top q) within_root) in
-        let b : times x (numbers (within tree forest.top q)) ≡ times x (numbers tree.pages ++ q ∷ []) = ap (λ (m : List (ℕ × Page)). times x (numbers m)) appended ∙ ap (times x) (numbers-append tree.pages ((q, moved forest.top) ∷ [])) in
+        let b : times x (numbers (within tree forest.top q)) ≡ times x (numbers tree.pages ++ q ∷ []) = ap (λ (m : List (ℕ × Node)). times x (numbers m)) appended ∙ ap (times x) (numbers-append tree.pages ((q, moved forest.top) ∷ [])) in
         omega (arith, a, b, times-append x (numbers tree.pages) (q ∷ []))
 
     is_named : (x : ℕ) → times x (named (lifted_pages tree forest.top q)) ≡ times x (named tree.pages) + one_if (q == x)
     is_named x =
         let a : times x (named (lifted_pages tree forest.top q)) + times x (children forest.top.entries) ≡ times x (named (within tree forest.top q)) + times x (children (lifted forest.top q).entries) = named-put tree.root (lifted forest.top q) forest.top (within tree forest.top q) x within_root in
-        let b : times x (named (within tree forest.top q)) ≡ times x (named tree.pages) + times x (named ((q, moved forest.top) ∷ [])) = ap (λ (m : List (ℕ × Page)). times x (named m)) appended ∙ named-append tree.pages ((q, moved forest.top) ∷ []) x in
+        let b : times x (named (within tree forest.top q)) ≡ times x (named tree.pages) + times x (named ((q, moved forest.top) ∷ [])) = ap (λ (m : List (ℕ × Node)). times x (named m)) appended ∙ named-append tree.pages ((q, moved forest.top) ∷ []) x in
         omega (arith, a, b, times-append x (children forest.top.entries) [])
 
     counter_stays : counter (raised tree q (Some forest.top)) ≡ counter tree
@@ -138,17 +138,17 @@ raised_forest tree forest q can = record {
       numbered = omega (arith, counter_stays, is_top.numbered);
     }
 
-    page_of : (x : ℕ) (page : Page) → page_in (lifted_pages tree forest.top q) x ≡ Some page → IsPage (raised tree q (Some forest.top)) x page
+    page_of : (x : ℕ) (page : Node) → page_in (lifted_pages tree forest.top q) x ≡ Some page → IsPage (raised tree q (Some forest.top)) x page
     page_of x page h = elim (put_or_other tree.root x (lifted forest.top q) page (within tree forest.top q) h) [
-      | inl root ↦ subst (λ (z : Page). IsPage (raised tree q (Some forest.top)) x z) root.is (root_page x (sym root.at))
+      | inl root ↦ subst (λ (z : Node). IsPage (raised tree q (Some forest.top)) x z) root.is (root_page x (sym root.at))
       | inr more ↦ elim (put_or_other q x (moved forest.top) page tree.pages more.there) [
-        | inl new ↦ subst (λ (z : Page). IsPage (raised tree q (Some forest.top)) x z) new.is (moved_page x (sym new.at))
+        | inl new ↦ subst (λ (z : Node). IsPage (raised tree q (Some forest.top)) x z) new.is (moved_page x (sym new.at))
         | inr old ↦ (let is : IsPage tree x page = forest.each x page old.there in
             record { kinds = is.kinds; boxes = is.boxes; filled = is.filled; numbered = omega (arith, is.numbered, counter_stays) })
       ]
     ]
 
-    names_old : (p c : ℕ) (a : Page) (e : Entry) → page_at tree p ≡ Some a → Has a.entries e → child_of e ≡ Some c → (b : Page) → page_in (lifted_pages tree forest.top q) c ≡ Some b → page_at tree c ≡ Some b
+    names_old : (p c : ℕ) (a : Node) (e : Entry) → page_at tree p ≡ Some a → Has a.entries e → child_of e ≡ Some c → (b : Node) → page_in (lifted_pages tree forest.top q) c ≡ Some b → page_at tree c ≡ Some b
     names_old p c a e h has to b k =
         let n : Names tree p c e = record { page = a; there = h; has = has; to = to } in
         elim (put_or_other tree.root c (lifted forest.top q) b (within tree forest.top q) k) [
@@ -160,35 +160,35 @@ raised_forest tree forest q can = record {
           ]
         ]
 
-    below_lifted : (c : ℕ) (b : Page) (e : Entry) → entry_for (least forest.top.entries) q ≡ e → child_of e ≡ Some c → page_in (lifted_pages tree forest.top q) c ≡ Some b → IsBelow e (lifted forest.top q) b
+    below_lifted : (c : ℕ) (b : Node) (e : Entry) → entry_for (least forest.top.entries) q ≡ e → child_of e ≡ Some c → page_in (lifted_pages tree forest.top q) c ≡ Some b → IsBelow e (lifted forest.top q) b
     below_lifted c b e same to k =
         let at : Some q ≡ Some c = ap child_of same ∙ to in
         let at' : q ≡ c = cc in
         let at_q : page_in (lifted_pages tree forest.top q) q ≡ Some (moved forest.top) = page_in-put_other tree.root q (lifted forest.top q) (within tree forest.top q) q_other ∙ page_in-put_same q (moved forest.top) tree.pages in
         let at_c : page_in (lifted_pages tree forest.top q) c ≡ Some (moved forest.top) = subst (λ (z : ℕ). page_in (lifted_pages tree forest.top q) z ≡ Some (moved forest.top)) at' at_q in
         let is : moved forest.top ≡ b = same_page (page_in (lifted_pages tree forest.top q) c) (moved forest.top) b at_c k in
-        subst (λ (z : Page). IsBelow e (lifted forest.top q) z) is (record {
+        subst (λ (z : Node). IsBelow e (lifted forest.top q) z) is (record {
           level = refl;
           inside = λ g hg. subst (λ (z : Entry). covers z.b g.b ≡ true) same (least_covers forest.top.entries g hg);
         })
 
-    below_of : (p c : ℕ) (a b : Page) (e : Entry) → page_in (lifted_pages tree forest.top q) p ≡ Some a → Has a.entries e → child_of e ≡ Some c → page_in (lifted_pages tree forest.top q) c ≡ Some b → IsBelow e a b
+    below_of : (p c : ℕ) (a b : Node) (e : Entry) → page_in (lifted_pages tree forest.top q) p ≡ Some a → Has a.entries e → child_of e ≡ Some c → page_in (lifted_pages tree forest.top q) c ≡ Some b → IsBelow e a b
     below_of p c a b e h has to k = elim (put_or_other tree.root p (lifted forest.top q) a (within tree forest.top q) h) [
-      | inl root ↦ (let has' : Has (lifted forest.top q).entries e = subst (λ (z : Page). Has z.entries e) (sym root.is) has in
-          subst (λ (z : Page). IsBelow e z b) root.is (elim has' [ inl same ↦ below_lifted c b e same to k | inr none ↦ absurd none ]))
+      | inl root ↦ (let has' : Has (lifted forest.top q).entries e = subst (λ (z : Node). Has z.entries e) (sym root.is) has in
+          subst (λ (z : Node). IsBelow e z b) root.is (elim has' [ inl same ↦ below_lifted c b e same to k | inr none ↦ absurd none ]))
       | inr more ↦ elim (put_or_other q p (moved forest.top) a tree.pages more.there) [
-        | inl new ↦ (let has' : Has forest.top.entries e = subst (λ (z : Page). Has z.entries e) (sym new.is) has in
+        | inl new ↦ (let has' : Has forest.top.entries e = subst (λ (z : Node). Has z.entries e) (sym new.is) has in
             let is : IsBelow e forest.top b = forest.below tree.root c forest.top b e forest.rooted has' to (names_old tree.root c forest.top e forest.rooted has' to b k) in
-            subst (λ (z : Page). IsBelow e z b) new.is (record { level = is.level; inside = is.inside }))
+            subst (λ (z : Node). IsBelow e z b) new.is (record { level = is.level; inside = is.inside }))
         | inr old ↦ forest.below p c a b e old.there has to (names_old p c a e old.there has to b k)
       ]
     ]
 
-    linked_of : (x r : ℕ) (page : Page) → page_in (lifted_pages tree forest.top q) x ≡ Some page → page.next ≡ Some r → IsLinked (raised tree q (Some forest.top)) page r
+    linked_of : (x r : ℕ) (page : Node) → page_in (lifted_pages tree forest.top q) x ≡ Some page → page.next ≡ Some r → IsLinked (raised tree q (Some forest.top)) page r
     linked_of x r page h next = elim (put_or_other tree.root x (lifted forest.top q) page (within tree forest.top q) h) [
-      | inl root ↦ (let none : page.next ≡ None = sym (ap (λ (z : Page). z.next) root.is) in let no : ⊥ = cc in absurd no)
+      | inl root ↦ (let none : page.next ≡ None = sym (ap (λ (z : Node). z.next) root.is) in let no : ⊥ = cc in absurd no)
       | inr more ↦ elim (put_or_other q x (moved forest.top) page tree.pages more.there) [
-        | inl new ↦ (let none : page.next ≡ None = sym (ap (λ (z : Page). z.next) new.is) in let no : ⊥ = cc in absurd no)
+        | inl new ↦ (let none : page.next ≡ None = sym (ap (λ (z : Node). z.next) new.is) in let no : ⊥ = cc in absurd no)
         | inr old ↦ (let is : IsLinked tree page r = forest.linked x r page old.there next in
             let not_q : (q == r) ≡ false = turned r q (apart tree.pages r q is.right is.there can.free) in
             let not_root : (tree.root == r) ≡ false = elim (tree.root == r) as (λ b. (tree.root == r) ≡ b → b ≡ false) [

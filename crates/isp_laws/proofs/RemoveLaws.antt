@@ -1,14 +1,14 @@
 -- Removing a leaf's entry keeps the forest, and leaves all links and numbers.
 use Rattle.std.proofs.Common.{◌≡◌, inl, inr, ℕ, ◌<◌, ◌==◌, true, false, List, [], ◌∷◌, length, refl, ap, ◌∙◌, arith, eqb-true}
 use Rattle.std.specs.Prelude.{is_none, not, filter}
-use Rattle.isp_rnode.specs.declared.entry.Entry.{Entry}
-use Rattle.isp_rnode.specs.declared.entry.To.{To}
-use Rattle.isp_rnode.specs.declared.entry.To.TheVariants.{Child, Row}
-use Rattle.isp_rnode.specs.Lists.{Has, times}
-use Rattle.isp_rnode.specs.Tree.{Page, Tree, child_in, child_of}
-use Rattle.isp_rnode.specs.Forest.{Forest, IsBelow, IsPage}
-use Rattle.isp_rnode.specs.Walk.{Links}
-use Rattle.isp_machine.specs.Steps.{is_row, without, remove}
+use Rattle.isp_forest.specs.declared.entry.Entry.{Entry}
+use Rattle.isp_forest.specs.declared.entry.To.{To}
+use Rattle.isp_forest.specs.declared.entry.To.TheVariants.{Child, Row}
+use Rattle.isp_base.specs.Lists.{Has, times}
+use Rattle.isp_forest.specs.Tree.{Node, Tree, child_in, child_of}
+use Rattle.isp_forest.specs.Forest.{Forest, IsBelow, IsPage}
+use Rattle.isp_forest.specs.Walk.{Links}
+use Rattle.isp_forest.specs.Steps.{is_row, without, remove}
 use Rattle.isp_laws.proofs.ListLaws.{Has-filter}
 use Rattle.isp_laws.proofs.EntryLaws.{children-without_row}
 use Rattle.isp_laws.proofs.RoundLaws.{Still, Fits, forest-rounded, links-rounded}
@@ -47,7 +47,7 @@ remove-fits tree number forest = record {
   inside = λ p q a b e g h has to k hg. (let is : IsBelow e a b = forest.below p q a b e h (had a e has) to k in is.inside g (had b g hg));
 }
   where
-    had : (page : Page) (e : Entry) → Has (filter (λ x. not (is_row number x.to)) page.entries) e → Has page.entries e
+    had : (page : Node) (e : Entry) → Has (filter (λ x. not (is_row number x.to)) page.entries) e → Has page.entries e
     had page e h = Has-filter (λ x. not (is_row number x.to)) page.entries e h
 
 pub remove_keeps : (tree : Tree) (number : ℕ) → Forest tree → Forest (remove tree number)

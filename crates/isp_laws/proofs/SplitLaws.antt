@@ -5,12 +5,12 @@ use Rattle.std.proofs.lemmas.List.{length-map}
 use Rattle.isp_mbr.specs.Corners.{Corners}
 use Rattle.isp_mbr.specs.Boxes.{IsBox, covers}
 use Rattle.isp_mbr.proofs.BoxLaws.{covers_trans}
-use Rattle.isp_rnode.specs.declared.entry.Entry.{Entry}
-use Rattle.isp_rnode.specs.Lists.{Has, times}
-use Rattle.isp_rnode.specs.Tree.{Page, Tree, page_in, page_at, counter, ssn_of, child_of, children, numbers, named, least}
-use Rattle.isp_rnode.specs.Forest.{Forest, IsBelow, IsPage, IsLinked}
-use Rattle.isp_machine.specs.Steps.{put, each, names, entry_for, reboxed, split_round, split_of, split}
-use Rattle.isp_machine.specs.Place.{CanSplit}
+use Rattle.isp_forest.specs.declared.entry.Entry.{Entry}
+use Rattle.isp_base.specs.Lists.{Has, times}
+use Rattle.isp_forest.specs.Tree.{Node, Tree, page_in, page_at, counter, ssn_of, child_of, children, numbers, named, least}
+use Rattle.isp_forest.specs.Forest.{Forest, IsBelow, IsPage, IsLinked}
+use Rattle.isp_forest.specs.Steps.{put, each, names, entry_for, reboxed, split_round, split_of, split}
+use Rattle.isp_forest.specs.Place.{CanSplit}
 use Rattle.isp_laws.proofs.ListLaws.{Has-append, Has-append_left, Has-append_right, Has-map, Source, times-append}
 use Rattle.isp_laws.proofs.PageLaws.{page_in-put_same, page_in-put_other, put_new, numbers-put, named-put, named-append, numbers-append, page_in-each, numbers-each, named-each, total_once, times_free, times_there, Before, before, after_each, changed}
 use Rattle.isp_laws.proofs.EntryLaws.{children-append, children-map, least_covers, least_inside, IsBox-least, Has-permutation, times-permutation}
@@ -28,22 +28,22 @@ pub record Splitting : Type 0 where
   pub right : List Entry
   pub can : CanSplit tree o above left right n
 
-abbrev pub kept : Splitting → Page
+abbrev pub kept : Splitting → Node
 kept c = record { level = c.can.page.level; ssn = suc (counter c.tree); next = Some c.n; entries = c.left }
 
-abbrev pub gone : Splitting → Page
+abbrev pub gone : Splitting → Node
 gone c = record c.can.page { entries = c.right }
 
-abbrev pub round : Splitting → ℕ → Page → Page
+abbrev pub round : Splitting → ℕ → Node → Node
 round c = split_round c.tree c.o c.above c.left c.right c.n
 
-abbrev pub one_round : Splitting → List (ℕ × Page)
+abbrev pub one_round : Splitting → List (ℕ × Node)
 one_round c = each (round c) c.tree.pages
 
-abbrev pub with_kept : Splitting → List (ℕ × Page)
+abbrev pub with_kept : Splitting → List (ℕ × Node)
 with_kept c = put c.o (kept c) (one_round c)
 
-abbrev pub with_gone : Splitting → List (ℕ × Page)
+abbrev pub with_gone : Splitting → List (ℕ × Node)
 with_gone c = put c.n (gone c) (with_kept c)
 
 abbrev pub after_split : Splitting → Tree
@@ -67,7 +67,7 @@ pub below_above : (c : Splitting) → IsBelow c.can.entry c.can.named.page c.can
 below_above c = c.forest.below c.above c.o c.can.named.page c.can.page c.can.entry c.can.named.there c.can.named.has c.can.named.to c.can.there
 
 -- no page names itself
-pub not_itself : (tree : Tree) → Forest tree → (p q : ℕ) (a : Page) (e : Entry) → page_at tree p ≡ Some a → Has a.entries e → child_of e ≡ Some q → (p == q) ≡ false
+pub not_itself : (tree : Tree) → Forest tree → (p q : ℕ) (a : Node) (e : Entry) → page_at tree p ≡ Some a → Has a.entries e → child_of e ≡ Some q → (p == q) ≡ false
 not_itself tree forest p q a e there has to =
     elim (p == q) as (λ b. (p == q) ≡ b → b ≡ false) [
       | true ↦ λ t. (let at : page_at tree q ≡ Some a = subst (λ (z : ℕ). page_at tree z ≡ Some a) (eqb-true p q t) there in
@@ -90,17 +90,17 @@ at_o c = page_in-put_other c.n c.o (gone c) (with_kept c) (n_not_o c) ∙ page_i
 pub at_other : (c : Splitting) (x : ℕ) → (c.n == x) ≡ false → (c.o == x) ≡ false → page_in (with_gone c) x ≡ page_in (one_round c) x
 at_other c x not_n not_o = page_in-put_other c.n x (gone c) (with_kept c) not_n ∙ page_in-put_other c.o x (kept c) (one_round c) not_o
 
-pub at_old : (c : Splitting) (x : ℕ) (page : Page) → (c.n == x) ≡ false → (c.o == x) ≡ false → page_at c.tree x ≡ Some page → page_in (with_gone c) x ≡ Some (round c x page)
+pub at_old : (c : Splitting) (x : ℕ) (page : Node) → (c.n == x) ≡ false → (c.o == x) ≡ false → page_at c.tree x ≡ Some page → page_in (with_gone c) x ≡ Some (round c x page)
 at_old c x page not_n not_o there = at_other c x not_n not_o ∙ after_each (round c) c.tree.pages x page there
 
-pub record IsRound (c : Splitting) (x : ℕ) (y : Page) : Type 0 where
-  pub old : Page
+pub record IsRound (c : Splitting) (x : ℕ) (y : Node) : Type 0 where
+  pub old : Node
   pub not_n : (c.n == x) ≡ false
   pub not_o : (c.o == x) ≡ false
   pub there : page_at c.tree x ≡ Some old
   pub is : round c x old ≡ y
 
-pub what : (c : Splitting) (x : ℕ) (y : Page) → page_in (with_gone c) x ≡ Some y → IsPut c.n x (gone c) y ⊎ (IsPut c.o x (kept c) y ⊎ IsRound c x y)
+pub what : (c : Splitting) (x : ℕ) (y : Node) → page_in (with_gone c) x ≡ Some y → IsPut c.n x (gone c) y ⊎ (IsPut c.o x (kept c) y ⊎ IsRound c x y)
 what c x y h = elim (put_or_other c.n x (gone c) y (with_kept c) h) [
   | inl new ↦ inl new
   | inr more ↦ elim (put_or_other c.o x (kept c) y (one_round c) more.there) [
@@ -140,7 +140,7 @@ kids_added : (b : Bool) (box : Corners) (n r : ℕ) → times r (children (cond 
 kids_added true box n r = refl
 kids_added false box n r = refl
 
-kids_of_round : (c : Splitting) (r q : ℕ) (page : Page) → times r (children (round c q page).entries) ≡ times r (children page.entries) + added c r q
+kids_of_round : (c : Splitting) (r q : ℕ) (page : Node) → times r (children (round c q page).entries) ≡ times r (children page.entries) + added c r q
 kids_of_round c r q page =
     let more : List Entry = cond (q == c.above) (entry_for (least c.right) c.n ∷ []) [] in
     let e : times r (children (map (reboxed c.o (least c.left)) page.entries ++ cond (q == c.above) (entry_for (least c.right) c.n ∷ []) [])) ≡ times r (children (map (reboxed c.o (least c.left)) page.entries) ++ children (cond (q == c.above) (entry_for (least c.right) c.n ∷ []) [])) = ap (times r) (children-append (map (reboxed c.o (least c.left)) page.entries) (cond (q == c.above) (entry_for (least c.right) c.n ∷ []) [])) in
@@ -168,7 +168,7 @@ added_to_o false k h = refl
 pub named_split : (c : Splitting) (r : ℕ) → times r (named (with_gone c)) ≡ times r (named c.tree.pages) + times r (c.n ∷ [])
 named_split c r =
     let at : page_in (one_round c) c.o ≡ Some (round c c.o c.can.page) = after_each (round c) c.tree.pages c.o c.can.page c.can.there in
-    let a : times r (named (with_gone c)) ≡ times r (named (with_kept c)) + times r (named ((c.n, gone c) ∷ [])) = ap (λ (m : List (ℕ × Page)). times r (named m)) (put_new c.n (gone c) (with_kept c) (n_new c)) ∙ named-append (with_kept c) ((c.n, gone c) ∷ []) r in
+    let a : times r (named (with_gone c)) ≡ times r (named (with_kept c)) + times r (named ((c.n, gone c) ∷ [])) = ap (λ (m : List (ℕ × Node)). times r (named m)) (put_new c.n (gone c) (with_kept c) (n_new c)) ∙ named-append (with_kept c) ((c.n, gone c) ∷ []) r in
     let b : times r (named (with_kept c)) + times r (children (round c c.o c.can.page).entries) ≡ times r (named (one_round c)) + times r (children c.left) = named-put c.o (kept c) (round c c.o c.can.page) (one_round c) r at in
     let none : added c r c.o ≡ 0 = added_to_o (c.o == c.above) (times r (c.n ∷ [])) (o_not_above c) in
     let k : times r (children (round c c.o c.can.page).entries) ≡ times r (children c.can.page.entries) + added c r c.o = kids_of_round c r c.o c.can.page in
@@ -178,14 +178,14 @@ named_split c r =
 pub numbered_split : (c : Splitting) (r : ℕ) → times r (numbers (with_gone c)) ≡ times r (numbers c.tree.pages) + times r (c.n ∷ [])
 numbered_split c r =
     let at : page_in (one_round c) c.o ≡ Some (round c c.o c.can.page) = after_each (round c) c.tree.pages c.o c.can.page c.can.there in
-    ap (λ (m : List (ℕ × Page)). times r (numbers m)) (put_new c.n (gone c) (with_kept c) (n_new c))
+    ap (λ (m : List (ℕ × Node)). times r (numbers m)) (put_new c.n (gone c) (with_kept c) (n_new c))
     ∙ ap (times r) (numbers-append (with_kept c) ((c.n, gone c) ∷ []))
     ∙ times-append r (numbers (with_kept c)) (c.n ∷ [])
     ∙ ap (λ ns. times r ns + times r (c.n ∷ [])) (numbers-put c.o (kept c) (round c c.o c.can.page) (one_round c) at ∙ numbers-each (round c) c.tree.pages)
 
 -- ---- entries after the split
 
-pub record WasThere (c : Splitting) (page : Page) (e : Entry) : Type 0 where
+pub record WasThere (c : Splitting) (page : Node) (e : Entry) : Type 0 where
   pub old : Entry
   pub has : Has page.entries old
   pub is : reboxed c.o (least c.left) old ≡ e
@@ -199,7 +199,7 @@ new_at c q e true t (inl same) = record { at = eqb-true q c.above t; is = same }
 new_at c q e true t (inr none) = absurd none
 new_at c q e false t h = absurd h
 
-pub entry_of : (c : Splitting) (q : ℕ) (page : Page) (e : Entry) → Has (round c q page).entries e → WasThere c page e ⊎ IsNew c q e
+pub entry_of : (c : Splitting) (q : ℕ) (page : Node) (e : Entry) → Has (round c q page).entries e → WasThere c page e ⊎ IsNew c q e
 entry_of c q page e h =
     elim (Has-append (map (reboxed c.o (least c.left)) page.entries) (cond (q == c.above) (entry_for (least c.right) c.n ∷ []) []) e h) [
       | inl k ↦ (let s : Source (reboxed c.o (least c.left)) page.entries e = Has-map (reboxed c.o (least c.left)) page.entries e k in inl (record { old = s.x; has = s.has; is = s.is }))
@@ -209,7 +209,7 @@ entry_of c q page e h =
 -- an entry for page q after the split is one from before, with its box, but for the one for the page that was split
 record FromOld (c : Splitting) (level q : ℕ) (e : Entry) : Type 0 where
   p : ℕ
-  page : Page
+  page : Node
   there : page_at c.tree p ≡ Some page
   old : Entry
   has : Has page.entries old
@@ -247,7 +247,7 @@ from_part c q e has to =
       box_of_other = λ t. refl;
     }
 
-from_round : (c : Splitting) (p q : ℕ) (page : Page) (e : Entry) → page_at c.tree p ≡ Some page → Has (round c p page).entries e → child_of e ≡ Some q
+from_round : (c : Splitting) (p q : ℕ) (page : Node) (e : Entry) → page_at c.tree p ≡ Some page → Has (round c p page).entries e → child_of e ≡ Some q
     → FromOld c page.level q e ⊎ ForNew c page.level q e
 from_round c p q page e there has to = elim (entry_of c p page e has) [
   | inl was ↦ (let to' : child_of was.old ≡ Some q = ap child_of was.is ∙ to in
@@ -265,22 +265,22 @@ from_round c p q page e there has to = elim (entry_of c p page e has) [
       }))
   | inr new ↦ (let at : page_at c.tree c.above ≡ Some page = subst (λ (z : ℕ). page_at c.tree z ≡ Some page) new.at there in
       let same : page ≡ c.can.named.page = same_page (page_at c.tree c.above) page c.can.named.page at c.can.named.there in
-      let level : page.level ≡ suc c.can.page.level = ap (λ (x : Page). x.level) same ∙ (below_above c).level in
+      let level : page.level ≡ suc c.can.page.level = ap (λ (x : Node). x.level) same ∙ (below_above c).level in
       let named : Some c.n ≡ Some q = ap child_of new.is ∙ to in
       inr (record { at = cc; box = ap (λ (x : Entry). x.b) (sym new.is); one_up = level }))
 ]
 
-origin : (c : Splitting) (p q : ℕ) (a : Page) (e : Entry) → page_in (with_gone c) p ≡ Some a → Has a.entries e → child_of e ≡ Some q → FromOld c a.level q e ⊎ ForNew c a.level q e
+origin : (c : Splitting) (p q : ℕ) (a : Node) (e : Entry) → page_in (with_gone c) p ≡ Some a → Has a.entries e → child_of e ≡ Some q → FromOld c a.level q e ⊎ ForNew c a.level q e
 origin c p q a e h has to = elim (what c p a h) [
-  | inl new ↦ (let has' : Has c.right e = subst (λ (x : Page). Has x.entries e) (sym new.is) has in
-      let level : c.can.page.level ≡ a.level = ap (λ (x : Page). x.level) new.is in
+  | inl new ↦ (let has' : Has c.right e = subst (λ (x : Node). Has x.entries e) (sym new.is) has in
+      let level : c.can.page.level ≡ a.level = ap (λ (x : Node). x.level) new.is in
       inl (subst (λ (l : ℕ). FromOld c l q e) level (from_part c q e (in_right c e has') to)))
   | inr more ↦ elim more [
-    | inl stay ↦ (let has' : Has c.left e = subst (λ (x : Page). Has x.entries e) (sym stay.is) has in
-        let level : c.can.page.level ≡ a.level = ap (λ (x : Page). x.level) stay.is in
+    | inl stay ↦ (let has' : Has c.left e = subst (λ (x : Node). Has x.entries e) (sym stay.is) has in
+        let level : c.can.page.level ≡ a.level = ap (λ (x : Node). x.level) stay.is in
         inl (subst (λ (l : ℕ). FromOld c l q e) level (from_part c q e (in_left c e has') to)))
-    | inr old ↦ (let has' : Has (round c p old.old).entries e = subst (λ (x : Page). Has x.entries e) (sym old.is) has in
-        let level : old.old.level ≡ a.level = ap (λ (x : Page). x.level) old.is in
+    | inr old ↦ (let has' : Has (round c p old.old).entries e = subst (λ (x : Node). Has x.entries e) (sym old.is) has in
+        let level : old.old.level ≡ a.level = ap (λ (x : Node). x.level) old.is in
         elim (from_round c p q old.old e old.there has' to) [
           | inl from ↦ inl (subst (λ (l : ℕ). FromOld c l q e) level from)
           | inr new ↦ inr (subst (λ (l : ℕ). ForNew c l q e) level new)
@@ -291,7 +291,7 @@ origin c p q a e h has to = elim (what c p a h) [
 -- ---- boxes after the split
 
 -- what covered all entries of a page still does
-inside_round : (c : Splitting) (q : ℕ) (page : Page) (d : Corners) → page_at c.tree q ≡ Some page → ((e : Entry) → Has page.entries e → covers d e.b ≡ true)
+inside_round : (c : Splitting) (q : ℕ) (page : Node) (d : Corners) → page_at c.tree q ≡ Some page → ((e : Entry) → Has page.entries e → covers d e.b ≡ true)
     → (g : Entry) → Has (round c q page).entries g → covers d g.b ≡ true
 inside_round c q page d there h g hg = elim (entry_of c q page g hg) [
   | inl was ↦ subst (λ (x : Entry). covers d x.b ≡ true) was.is (reboxed_inside was.old was.has (child_of was.old) refl)
@@ -317,11 +317,11 @@ inside_round c q page d there h g hg = elim (entry_of c q page g hg) [
     new_inside at =
         let here : page_at c.tree c.above ≡ Some page = subst (λ (z : ℕ). page_at c.tree z ≡ Some page) at there in
         let same : c.can.named.page ≡ page = same_page (page_at c.tree c.above) c.can.named.page page c.can.named.there here in
-        let has : Has page.entries c.can.entry = subst (λ (x : Page). Has x.entries c.can.entry) same c.can.named.has in
-        let is : IsBelow c.can.entry page c.can.page = subst (λ (x : Page). IsBelow c.can.entry x c.can.page) same (below_above c) in
+        let has : Has page.entries c.can.entry = subst (λ (x : Node). Has x.entries c.can.entry) same c.can.named.has in
+        let is : IsBelow c.can.entry page c.can.page = subst (λ (x : Node). IsBelow c.can.entry x c.can.page) same (below_above c) in
         least_inside d c.right c.can.parts.right_some (λ x hx. parts_inside c.can.entry (h c.can.entry has) is x (in_right c x hx))
 
-below_split : (c : Splitting) (p q : ℕ) (a b : Page) (e : Entry) → page_in (with_gone c) p ≡ Some a → Has a.entries e → child_of e ≡ Some q → page_in (with_gone c) q ≡ Some b → IsBelow e a b
+below_split : (c : Splitting) (p q : ℕ) (a b : Node) (e : Entry) → page_in (with_gone c) p ≡ Some a → Has a.entries e → child_of e ≡ Some q → page_in (with_gone c) q ≡ Some b → IsBelow e a b
 below_split c p q a b e h has to k = elim (what c q b k) [
   | inl new ↦ subst (IsBelow e a) new.is (elim (origin c p q a e h has to) [
     | inl from ↦ (let free : page_at c.tree q ≡ None = subst (λ (z : ℕ). page_at c.tree z ≡ None) new.at c.can.free in
@@ -371,13 +371,13 @@ ssn_at_most : (b : Bool) (n s : ℕ) → s ≤ n → cond b (suc n) s ≤ suc n
 ssn_at_most true n s h = omega arith
 ssn_at_most false n s h = omega arith
 
-round_page : (c : Splitting) (x : ℕ) (page : Page) → page_at c.tree x ≡ Some page → IsPage (after_split c) x (round c x page)
+round_page : (c : Splitting) (x : ℕ) (page : Node) → page_at c.tree x ≡ Some page → IsPage (after_split c) x (round c x page)
 round_page c x page there = record {
   kinds = λ e h. elim (entry_of c x page e h) [
     | inl was ↦ ap (λ (z : Entry). is_none (child_of z)) (sym was.is) ∙ is.kinds was.old was.has
     | inr new ↦ (let at : page_at c.tree c.above ≡ Some page = subst (λ (z : ℕ). page_at c.tree z ≡ Some page) new.at there in
         let same : page ≡ c.can.named.page = same_page (page_at c.tree c.above) page c.can.named.page at c.can.named.there in
-        let level : page.level ≡ suc c.can.page.level = ap (λ (z : Page). z.level) same ∙ (below_above c).level in
+        let level : page.level ≡ suc c.can.page.level = ap (λ (z : Node). z.level) same ∙ (below_above c).level in
         ap (λ (z : Entry). is_none (child_of z)) (sym new.is) ∙ sym (ap (λ l. l == 0) level ∙ suc_not_zero c.can.page.level))
   ];
   boxes = λ e h. elim (entry_of c x page e h) [
@@ -395,7 +395,7 @@ round_page c x page there = record {
     parted : IsPage c.tree c.o c.can.page
     parted = c.forest.each c.o c.can.page c.can.there
 
-page_split : (c : Splitting) (x : ℕ) (page : Page) → page_in (with_gone c) x ≡ Some page → IsPage (after_split c) x page
+page_split : (c : Splitting) (x : ℕ) (page : Node) → page_in (with_gone c) x ≡ Some page → IsPage (after_split c) x page
 page_split c x page h = elim (what c x page h) [
   | inl new ↦ subst (IsPage (after_split c) x) new.is (part_page c x c.can.page.ssn c.can.page.next c.right (in_right c) c.can.parts.right_two (omega (arith, parted.numbered)))
   | inr more ↦ elim more [
@@ -411,34 +411,34 @@ page_split c x page h = elim (what c x page h) [
 
 -- a page of the tree still is one of the same level
 pub record Still (c : Splitting) (r level : ℕ) : Type 0 where
-  pub page : Page
+  pub page : Node
   pub there : page_in (with_gone c) r ≡ Some page
   pub same : page.level ≡ level
 
-pub still_there : (c : Splitting) (r : ℕ) (page : Page) → page_at c.tree r ≡ Some page → Still c r page.level
+pub still_there : (c : Splitting) (r : ℕ) (page : Node) → page_at c.tree r ≡ Some page → Still c r page.level
 still_there c r page there =
     elim (c.o == r) as (λ b. (c.o == r) ≡ b → Still c r page.level) [
       | true ↦ λ t. (let at : c.o ≡ r = eqb-true c.o r t in
           let here : page_at c.tree c.o ≡ Some page = subst (λ (z : ℕ). page_at c.tree z ≡ Some page) (sym at) there in
           let same : c.can.page ≡ page = same_page (page_at c.tree c.o) c.can.page page c.can.there here in
-          record { page = kept c; there = subst (λ (z : ℕ). page_in (with_gone c) z ≡ Some (kept c)) at (at_o c); same = ap (λ (z : Page). z.level) same })
+          record { page = kept c; there = subst (λ (z : ℕ). page_in (with_gone c) z ≡ Some (kept c)) at (at_o c); same = ap (λ (z : Node). z.level) same })
       | false ↦ λ t. record { page = round c r page; there = at_old c r page (turned r c.n (apart c.tree.pages r c.n page there c.can.free)) t there; same = refl }
     ] refl
 
-linked_part : (c : Splitting) (p r : ℕ) (page y : Page) → page_at c.tree p ≡ Some page → page.next ≡ Some r → page.level ≡ y.level → IsLinked (after_split c) y r
+linked_part : (c : Splitting) (p r : ℕ) (page y : Node) → page_at c.tree p ≡ Some page → page.next ≡ Some r → page.level ≡ y.level → IsLinked (after_split c) y r
 linked_part c p r page y there next level =
     let is : IsLinked c.tree page r = c.forest.linked p r page there next in
     let s : Still c r is.right.level = still_there c r is.right is.there in
     record { right = s.page; there = s.there; level = s.same ∙ is.level ∙ level }
 
-linked_split : (c : Splitting) (x r : ℕ) (page : Page) → page_in (with_gone c) x ≡ Some page → page.next ≡ Some r → IsLinked (after_split c) page r
+linked_split : (c : Splitting) (x r : ℕ) (page : Node) → page_in (with_gone c) x ≡ Some page → page.next ≡ Some r → IsLinked (after_split c) page r
 linked_split c x r page h next = elim (what c x page h) [
-  | inl new ↦ linked_part c c.o r c.can.page page c.can.there (ap (λ (z : Page). z.next) new.is ∙ next) (ap (λ (z : Page). z.level) new.is)
+  | inl new ↦ linked_part c c.o r c.can.page page c.can.there (ap (λ (z : Node). z.next) new.is ∙ next) (ap (λ (z : Node). z.level) new.is)
   | inr more ↦ elim more [
-    | inl stay ↦ (let to : Some c.n ≡ Some r = ap (λ (z : Page). z.next) stay.is ∙ next in
+    | inl stay ↦ (let to : Some c.n ≡ Some r = ap (λ (z : Node). z.next) stay.is ∙ next in
         let at : c.n ≡ r = cc in
-        record { right = gone c; there = subst (λ (z : ℕ). page_in (with_gone c) z ≡ Some (gone c)) at (at_n c); level = ap (λ (z : Page). z.level) stay.is })
-    | inr old ↦ linked_part c x r old.old page old.there (ap (λ (z : Page). z.next) old.is ∙ next) (ap (λ (z : Page). z.level) old.is)
+        record { right = gone c; there = subst (λ (z : ℕ). page_in (with_gone c) z ≡ Some (gone c)) at (at_n c); level = ap (λ (z : Node). z.level) stay.is })
+    | inr old ↦ linked_part c x r old.old page old.there (ap (λ (z : Node). z.next) old.is ∙ next) (ap (λ (z : Node). z.level) old.is)
   ]
 ]
 

@@ -3,12 +3,12 @@
 use Rattle.std.proofs.Common.{◌≡◌, ◌⊎◌, inl, inr, ℕ, zero, suc, ◌≤◌, ◌==◌, Bool, true, false, cond, Option, Some, None, List, [], ◌∷◌, refl, ap, sym, ◌∙◌, arith, subst, eqb-true, eq-eqb}
 use Rattle.std.specs.Prelude.{nat_lt}
 use Rattle.std.proofs.lemmas.Bool.Decides.{nat_tests}
-use Rattle.isp_rnode.specs.declared.entry.Entry.{Entry}
-use Rattle.isp_rnode.specs.Tree.{Page, Tree, page_at, counter}
-use Rattle.isp_rnode.specs.Forest.{Forest, IsLinked}
-use Rattle.isp_rnode.specs.Walk.{split_since, onward, IsWalk, right_of, link, EndsAfter, Links}
-use Rattle.isp_machine.specs.Steps.{split, put_after}
-use Rattle.isp_machine.specs.Place.{CanSplit, StartsAt}
+use Rattle.isp_forest.specs.declared.entry.Entry.{Entry}
+use Rattle.isp_forest.specs.Tree.{Node, Tree, page_at, counter}
+use Rattle.isp_forest.specs.Forest.{Forest, IsLinked}
+use Rattle.isp_forest.specs.Walk.{split_since, onward, IsWalk, right_of, link, EndsAfter, Links}
+use Rattle.isp_forest.specs.Steps.{split, put_after}
+use Rattle.isp_forest.specs.Place.{CanSplit, StartsAt}
 use Rattle.isp_laws.proofs.PageLaws.{page_in-each, changed}
 use Rattle.isp_laws.proofs.ForestLaws.{same_page}
 use Rattle.isp_laws.proofs.RaiseLaws.{apart, turned}
@@ -22,21 +22,21 @@ link_n c = ap right_of (at_n c) ∙ ap right_of (sym c.can.there)
 pub link_o : (c : Splitting) → link (after_split c) c.o ≡ Some c.n
 link_o c = ap right_of (at_o c)
 
-link_round : (c : Splitting) (x : ℕ) (o : Option Page) → right_of (changed (round c) x o) ≡ right_of o
+link_round : (c : Splitting) (x : ℕ) (o : Option Node) → right_of (changed (round c) x o) ≡ right_of o
 link_round c x None = refl
 link_round c x (Some page) = refl
 
 pub link_other : (c : Splitting) (x : ℕ) → (c.n == x) ≡ false → (c.o == x) ≡ false → link (after_split c) x ≡ link c.tree x
 link_other c x not_n not_o = ap right_of (at_other c x not_n not_o ∙ page_in-each (round c) c.tree.pages x) ∙ link_round c x (page_at c.tree x)
 
-linked_at : (tree : Tree) (p q : ℕ) (o : Option Page) → page_at tree p ≡ o → right_of o ≡ Some q → (page : Page) × (page_at tree p ≡ Some page) × (page.next ≡ Some q)
+linked_at : (tree : Tree) (p q : ℕ) (o : Option Node) → page_at tree p ≡ o → right_of o ≡ Some q → (page : Node) × (page_at tree p ≡ Some page) × (page.next ≡ Some q)
 linked_at tree p q None e h = cc
 linked_at tree p q (Some page) e h = (page, e, h)
 
 -- a right link never leads to a page that no tree has
 pub link_not_n : (c : Splitting) (p q : ℕ) → link c.tree p ≡ Some q → (c.n == q) ≡ false
 link_not_n c p q h =
-    let l : (page : Page) × (page_at c.tree p ≡ Some page) × (page.next ≡ Some q) = linked_at c.tree p q (page_at c.tree p) refl h in
+    let l : (page : Node) × (page_at c.tree p ≡ Some page) × (page.next ≡ Some q) = linked_at c.tree p q (page_at c.tree p) refl h in
     let is : IsLinked c.tree l.0 q = c.forest.linked p q l.0 l.1 l.2 in
     turned q c.n (apart c.tree.pages q c.n is.right is.there c.can.free)
 
@@ -162,13 +162,13 @@ same_for_none false true o h = sym h
 same_for_none false false o h = refl
 
 -- but for the root, which has no right link, the other pages keep their numbers
-onward_round : (c : Splitting) (s x : ℕ) (o : Option Page) → page_at c.tree x ≡ o → split_since s (changed (round c) x o) ≡ split_since s o
+onward_round : (c : Splitting) (s x : ℕ) (o : Option Node) → page_at c.tree x ≡ o → split_since s (changed (round c) x o) ≡ split_since s o
 onward_round c s x None e = refl
 onward_round c s x (Some page) e =
     elim (x == c.tree.root) as (λ b. (x == c.tree.root) ≡ b → cond (nat_lt s (cond b (suc (counter c.tree)) page.ssn)) page.next None ≡ cond (nat_lt s page.ssn) page.next None) [
       | true ↦ λ t. (let root : page_at c.tree c.tree.root ≡ Some page = subst (λ (z : ℕ). page_at c.tree z ≡ Some page) (eqb-true x c.tree.root t) e in
           let same : page ≡ c.forest.top = same_page (page_at c.tree c.tree.root) page c.forest.top root c.forest.rooted in
-          let none : page.next ≡ None = ap (λ (z : Page). z.next) same ∙ c.forest.alone in
+          let none : page.next ≡ None = ap (λ (z : Node). z.next) same ∙ c.forest.alone in
           same_for_none (nat_lt s (suc (counter c.tree))) (nat_lt s page.ssn) page.next none)
       | false ↦ λ t. refl
     ] refl
@@ -176,7 +176,7 @@ onward_round c s x (Some page) e =
 pub onward_other : (c : Splitting) (s x : ℕ) → (c.n == x) ≡ false → (c.o == x) ≡ false → onward (after_split c) s x ≡ onward c.tree s x
 onward_other c s x not_n not_o = ap (split_since s) (at_other c x not_n not_o ∙ page_in-each (round c) c.tree.pages x) ∙ onward_round c s x (page_at c.tree x) refl
 
-onward_at : (s : ℕ) (o : Option Page) (q : ℕ) → split_since s o ≡ Some q → right_of o ≡ Some q
+onward_at : (s : ℕ) (o : Option Node) (q : ℕ) → split_since s o ≡ Some q → right_of o ≡ Some q
 onward_at s None q h = h
 onward_at s (Some page) q h = elim (nat_lt s page.ssn) as (λ b. cond b page.next None ≡ Some q → page.next ≡ Some q) [ true ↦ λ k. k | false ↦ λ k. cc ] h
 
@@ -204,7 +204,7 @@ walk_after_split c s given p (q ∷ rest) not_n h =
       | false ↦ λ t. walk_cons (after_split c) s p q (put_after c.o c.n (q ∷ rest)) (onward_other c s p not_n (turned p c.o t) ∙ h.0) (starts_after c.o c.n q rest) more
     ] refl
 
-pub split_walk : (tree : Tree) (o above : ℕ) (left right : List Entry) (n s p : ℕ) (rest : List ℕ) (page : Page) → Forest tree → CanSplit tree o above left right n
+pub split_walk : (tree : Tree) (o above : ℕ) (left right : List Entry) (n s p : ℕ) (rest : List ℕ) (page : Node) → Forest tree → CanSplit tree o above left right n
     → s ≤ counter tree → page_at tree p ≡ Some page → IsWalk tree s (p ∷ rest) → IsWalk (split tree o above left right n) s (put_after o n (p ∷ rest))
 split_walk tree o above left right n s p rest page forest can given there walk =
     let c : Splitting = splitting tree o above left right n forest can in

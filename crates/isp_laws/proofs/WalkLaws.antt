@@ -1,15 +1,15 @@
 -- Walks along right links: they end where right links do, and stay where the links and numbers of pages stay.
 use Rattle.std.proofs.Common.{◌≡◌, ◌⊎◌, inl, inr, ℕ, zero, suc, ◌+◌, true, false, cond, Option, Some, None, List, [], ◌∷◌, refl, ap, sym, ◌∙◌, subst, arith}
 use Rattle.std.specs.Prelude.{nat_lt}
-use Rattle.isp_rnode.specs.Tree.{Page, Tree, page_at}
-use Rattle.isp_rnode.specs.Walk.{split_since, onward, IsWalk, right_of, link, EndsAfter, Links, Follows}
+use Rattle.isp_forest.specs.Tree.{Node, Tree, page_at}
+use Rattle.isp_forest.specs.Walk.{split_since, onward, IsWalk, right_of, link, EndsAfter, Links, Follows}
 
 pub walk_same : (old new : Tree) (s : ℕ) → ((p : ℕ) → onward old s p ≡ onward new s p) → (w : List ℕ) → IsWalk old s w → IsWalk new s w
 walk_same old new s same [] h = h
 walk_same old new s same (p ∷ []) h = sym (same p) ∙ h
 walk_same old new s same (p ∷ q ∷ rest) h = (sym (same p) ∙ h.0, walk_same old new s same (q ∷ rest) h.1)
 
-since_at : (s : ℕ) (o : Option Page) → (split_since s o ≡ None) ⊎ (split_since s o ≡ right_of o)
+since_at : (s : ℕ) (o : Option Node) → (split_since s o ≡ None) ⊎ (split_since s o ≡ right_of o)
 since_at s None = inl refl
 since_at s (Some page) = elim (nat_lt s page.ssn) as (λ b. (cond b page.next None ≡ None) ⊎ (cond b page.next None ≡ page.next)) [ true ↦ inr refl | false ↦ inl refl ]
 

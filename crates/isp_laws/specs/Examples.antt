@@ -3,13 +3,13 @@
 -- both, page 19 gets the next number of the counter, and page 21 its former number and right link.
 use Rattle.std.specs.Prelude.{◌≡◌, ℕ, pos, ◌==◌, cond, Some, None, List, [], ◌∷◌}
 use Rattle.isp_mbr.specs.Corners.{Corners}
-use Rattle.isp_rnode.specs.declared.entry.Entry.{Entry}
-use Rattle.isp_rnode.specs.declared.entry.To.TheVariants.{Row}
-use Rattle.isp_rnode.specs.Lists.{Has}
-use Rattle.isp_rnode.specs.Tree.{Tree, page_at, ssn_of}
-use Rattle.isp_rnode.specs.Walk.{IsWalk, LinkedForest}
-use Rattle.isp_machine.specs.Steps.{each, entry_for}
-use Rattle.isp_machine.specs.Place.{Division, place}
+use Rattle.isp_forest.specs.declared.entry.Entry.{Entry}
+use Rattle.isp_forest.specs.declared.entry.To.TheVariants.{Row}
+use Rattle.isp_base.specs.Lists.{Has}
+use Rattle.isp_forest.specs.Tree.{Tree, page_at, ssn_of}
+use Rattle.isp_forest.specs.Walk.{IsWalk, LinkedForest}
+use Rattle.isp_forest.specs.Steps.{each, entry_for}
+use Rattle.isp_forest.specs.Place.{Division, place}
 
 abbrev pub box : ℕ → ℕ → ℕ → ℕ → Corners
 box x1 y1 x2 y2 = record { x1 = pos x1; y1 = pos y1; x2 = pos x2; y2 = pos y2 }

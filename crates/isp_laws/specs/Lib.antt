@@ -1,3 +1,4 @@
+pub mod DivisionLaws
 pub mod Examples
 pub mod SearchExamples
 pub mod TreeLaws

@@ -4,9 +4,9 @@
 use Rattle.std.specs.Prelude.{◌≡◌, ℕ, ℤ, pos, List, [], ◌∷◌}
 use Rattle.isp_mbr.specs.declared.predicate.Predicate.{Predicate}
 use Rattle.isp_mbr.specs.declared.predicate.Test.TheVariants.{Intersects}
-use Rattle.isp_machine.specs.Search.{Search}
-use Rattle.isp_machine.specs.Attach.{percolates, let_in, copied_up}
-use Rattle.isp_machine.specs.Visit.{begun, visit}
+use Rattle.isp_forest.specs.Search.{Search}
+use Rattle.isp_forest.specs.Attach.{percolates, let_in, copied_up}
+use Rattle.isp_forest.specs.Visit.{begun, visit}
 use Rattle.isp_laws.specs.Examples.{box, four_points, five_points, seven_points, first_division, division}
 
 abbrev pub meets_box : ℕ → ℕ → ℕ → ℕ → Predicate

@@ -3,13 +3,13 @@
 use Rattle.std.specs.Prelude.{◌≡◌, ℕ, ℤ, ◌≤◌, true, Some, List, ◌∷◌, reverse}
 use Rattle.isp_mbr.specs.Corners.{Corners}
 use Rattle.isp_mbr.specs.Boxes.{IsBox, covers}
-use Rattle.isp_rnode.specs.declared.entry.Entry.{Entry}
-use Rattle.isp_rnode.specs.Lists.{Has}
-use Rattle.isp_rnode.specs.Tree.{Page, Tree, page_at, counter}
-use Rattle.isp_rnode.specs.Forest.{Forest}
-use Rattle.isp_rnode.specs.Walk.{IsWalk, Follows, LinkedForest}
-use Rattle.isp_machine.specs.Steps.{is_last, add, raise, split, put_after, remove}
-use Rattle.isp_machine.specs.Place.{Names, IsPath, Stands, IsFree, CanRaise, CanSplit, CanRelieve, Division, place}
+use Rattle.isp_forest.specs.declared.entry.Entry.{Entry}
+use Rattle.isp_base.specs.Lists.{Has}
+use Rattle.isp_forest.specs.Tree.{Node, Tree, page_at, counter}
+use Rattle.isp_forest.specs.Forest.{Forest}
+use Rattle.isp_forest.specs.Walk.{IsWalk, Follows, LinkedForest}
+use Rattle.isp_forest.specs.Steps.{is_last, add, raise, split, put_after, remove}
+use Rattle.isp_forest.specs.Place.{Names, IsPath, Stands, IsFree, CanRaise, CanSplit, CanRelieve, Division, place}
 
 -- ---- each step keeps the tree whole
 
@@ -40,13 +40,13 @@ PlaceKeeps =
 -- no other page has the root's level, and no right link leads to the root
 abbrev pub RootIsAlone : Type 0
 RootIsAlone =
-    (tree : Tree) (forest : Forest tree) (q : ℕ) (page : Page) → page_at tree q ≡ Some page
+    (tree : Tree) (forest : Forest tree) (q : ℕ) (page : Node) → page_at tree q ≡ Some page
     → (page.level ≡ forest.top.level → q ≡ tree.root) × (page.next ≡ Some tree.root → ⊥)
 
 -- an entry on the last page of a way down lies in the box of the first page's entry for the second, so in each box on the way
 abbrev pub BoxesOnTheWay : Type 0
 BoxesOnTheWay =
-    (tree : Tree) → Forest tree → (p q : ℕ) (rest : List ℕ) (d : Entry) (last : ℕ) (page : Page) (e : Entry)
+    (tree : Tree) → Forest tree → (p q : ℕ) (rest : List ℕ) (d : Entry) (last : ℕ) (page : Node) (e : Entry)
     → Names tree p q d → IsPath tree (q ∷ rest) → is_last (q ∷ rest) last ≡ true → page_at tree last ≡ Some page → Has page.entries e
     → covers d.b e.b ≡ true
 
@@ -65,7 +65,7 @@ WalksAreOne = (tree : Tree) (s p : ℕ) (v w : List ℕ) → IsWalk tree s (p �
 -- the new page of a split comes right after the old one on each walk with a number that was given before
 abbrev pub WalksAfterSplit : Type 0
 WalksAfterSplit =
-    (tree : Tree) (o above : ℕ) (left right : List Entry) (n s p : ℕ) (rest : List ℕ) (page : Page)
+    (tree : Tree) (o above : ℕ) (left right : List Entry) (n s p : ℕ) (rest : List ℕ) (page : Node)
     → Forest tree → CanSplit tree o above left right n → s ≤ counter tree → page_at tree p ≡ Some page → IsWalk tree s (p ∷ rest)
     → IsWalk (split tree o above left right n) s (put_after o n (p ∷ rest))
 

@@ -1,9 +1,11 @@
 //! The laws of the page machine, each a public function with an empty body whose contract is the law.
 #![tactic(auto)]
 
+mod divisions;
 mod examples;
 mod trees;
 
+pub use divisions::{law_one_choice, law_one_division, law_split_gives_parts};
 pub use examples::{law_examples_fit, law_searches_fit, law_wrong_splits_miss};
 pub use trees::{
     law_add_keeps, law_boxes_on_the_way, law_links_never_lead_back, law_place_keeps,

@@ -12,8 +12,6 @@
 mod entries;
 mod modes;
 mod table;
-#[cfg(test)]
-mod tests;
 
 pub use entries::{Asked, Blocker, Held, Lock};
 pub use modes::Mode;

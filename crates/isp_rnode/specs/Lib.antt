@@ -1,4 +1,2 @@
-pub mod Forest
-pub mod Lists
-pub mod Tree
-pub mod Walk
+pub mod Candidates
+pub mod Nodes

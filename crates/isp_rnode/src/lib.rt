@@ -1,6 +1,17 @@
-//! A page of an R-tree as a list of entries; in `specs/`, the trees that such pages make while they split.
+//! Nodes of R-trees as bytes: the one place where a page's bytes become a list of entries, and where a list of entries is
+//! written into a page. What a node is stands in `isp_forest`; a page's bytes are read as they stand, so that nothing is
+//! copied only to be looked at.
+//!
+//! - `reading`: whether a page can be read as a node, how many entries it has, and the entries.
+//! - `writing`: a page's entries are replaced.
+//! - `choosing`: the subtree that a new entry goes to.
 #![tactic(auto)]
 
-mod entry;
+mod choosing;
+mod reading;
+mod writing;
 
-pub use entry::{Entry, Seen, To};
+pub use choosing::{choose, choose_in};
+pub use isp_forest::{Entry, Seen, To};
+pub use reading::{entries, entry, entry_count, readable};
+pub use writing::set_entries;

@@ -8,16 +8,16 @@ use Rattle.isp_mbr.specs.Predicates.{satisfies, may_hold}
 use Rattle.isp_mbr.specs.declared.predicate.Predicate.{Predicate}
 use Rattle.isp_mbr.proofs.BoxLaws.{covers_refl}
 use Rattle.isp_mbr.proofs.Pruning.{may_hold_of_satisfying, may_hold_grows}
-use Rattle.isp_rnode.specs.declared.entry.Entry.{Entry}
-use Rattle.isp_rnode.specs.declared.entry.To.TheVariants.{Row}
-use Rattle.isp_rnode.specs.Lists.{Has}
-use Rattle.isp_rnode.specs.Tree.{Page, Tree, page_at, counter, child_in, child_of}
-use Rattle.isp_rnode.specs.Forest.{Forest, IsBelow, IsPage}
-use Rattle.isp_rnode.specs.Walk.{onward}
-use Rattle.isp_machine.specs.Steps.{is_among, is_last, names, added_to, add}
-use Rattle.isp_machine.specs.Place.{Names, Stands}
-use Rattle.isp_machine.specs.Search.{Search, Item, Sees, IsOwn, Covered, Known}
-use Rattle.isp_machine.specs.Attach.{percolates, let_in, is_tested}
+use Rattle.isp_forest.specs.declared.entry.Entry.{Entry}
+use Rattle.isp_forest.specs.declared.entry.To.TheVariants.{Row}
+use Rattle.isp_base.specs.Lists.{Has}
+use Rattle.isp_forest.specs.Tree.{Node, Tree, page_at, counter, child_in, child_of}
+use Rattle.isp_forest.specs.Forest.{Forest, IsBelow, IsPage}
+use Rattle.isp_forest.specs.Walk.{onward}
+use Rattle.isp_forest.specs.Steps.{is_among, is_last, names, added_to, add}
+use Rattle.isp_forest.specs.Place.{Names, Stands}
+use Rattle.isp_forest.specs.Search.{Search, Item, Sees, IsOwn, Covered, Known}
+use Rattle.isp_forest.specs.Attach.{percolates, let_in, is_tested}
 use Rattle.isp_laws.proofs.ListLaws.{Has-append, Has-append_left, Has-append_right}
 use Rattle.isp_laws.proofs.PageLaws.{There, Before, before, after_each}
 use Rattle.isp_laws.proofs.ForestLaws.{child_there, named_not_root}
@@ -33,7 +33,7 @@ entered tree f [] stands box x q h = absurd h
 entered tree f (first ∷ rest) stands box x q h = came_in tree f x box (is_among x.on first) (first ∷ rest) stands.steps q h
 
 -- so no box on it could hold the predicate
-shut_inside : (tree : Tree) → Forest tree → (x : Search) (q : ℕ) (page : Page) (g : Entry) → Entered tree x q → page_at tree q ≡ Some page → Has page.entries g → may_hold x.predicate g.b ≡ true → ⊥
+shut_inside : (tree : Tree) → Forest tree → (x : Search) (q : ℕ) (page : Node) (g : Entry) → Entered tree x q → page_at tree q ≡ Some page → Has page.entries g → may_hold x.predicate g.b ≡ true → ⊥
 shut_inside tree f x q page g i there has may =
     let is : IsBelow i.e i.names.page page = f.below i.p q i.names.page page i.e i.names.there i.names.has i.names.to there in
     not_both (may_hold x.predicate (i.e).b) (may_hold_grows x.predicate g.b (i.e).b may (is.inside g has)) i.shut
@@ -74,7 +74,7 @@ add_covered tree path box key number x f stands c = record {
   ];
   root = sees tree.root c.root;
   children = λ p q e h n may. (let was : Before (added_to path box key number) tree.pages p n.page = before (added_to path box key number) tree.pages p n.page n.there in
-      let has : Has (added_to path box key number p was.old).entries e = subst (λ (z : Page). Has z.entries e) (sym was.is) n.has in
+      let has : Has (added_to path box key number p was.old).entries e = subst (λ (z : Node). Has z.entries e) (sym was.is) n.has in
       let w : WasThere path box was.old e = naming_entry path box key number p q was.old e has n.to in
       let to : child_of w.old ≡ Some q = ap child_of w.is ∙ n.to in
       let t : names (is_among path) (child_of w.old) ≡ is_among path q = ap (names (is_among path)) to in
@@ -128,8 +128,8 @@ pub add_known : (tree : Tree) (path : List ℕ) (box : Corners) (key : ℤ) (num
     → Known (add tree path box key number) (let_in tree path box x) (items ++ item session statement key number ∷ [])
 add_known tree path box key number x items session statement f stands may known = λ p leaf e k n on there level has to good. (
     let was : Before (added_to path box key number) tree.pages p leaf = before (added_to path box key number) tree.pages p leaf there in
-    let has' : Has (added_to path box key number p was.old).entries e = subst (λ (z : Page). Has z.entries e) (sym was.is) has in
-    let level' : was.old.level ≡ 0 = ap (λ (z : Page). z.level) was.is ∙ level in
+    let has' : Has (added_to path box key number p was.old).entries e = subst (λ (z : Node). Has z.entries e) (sym was.is) has in
+    let level' : was.old.level ≡ 0 = ap (λ (z : Node). z.level) was.is ∙ level in
     elim (entry_of path box key number p was.old e has') [
       | inl w ↦ (let to' : (w.old).to ≡ Row k n = ap (λ (z : Entry). z.to) w.is ∙ to in
           let none : names (is_among path) (child_of w.old) ≡ false = ap (λ t. names (is_among path) (child_in t)) to' in
@@ -141,7 +141,7 @@ add_known tree path box key number x items session statement f stands may known 
           inr (new_own p k n (same_row key k number n row) on new.last good'))
     ])
   where
-    was_known : (p : ℕ) (leaf : Page) (e : Entry) (k : ℤ) (n : ℕ) → Has (x.on ++ percolates tree x box path) p → page_at tree p ≡ Some leaf → leaf.level ≡ 0
+    was_known : (p : ℕ) (leaf : Node) (e : Entry) (k : ℤ) (n : ℕ) → Has (x.on ++ percolates tree x box path) p → page_at tree p ≡ Some leaf → leaf.level ≡ 0
         → Has leaf.entries e → e.to ≡ Row k n → satisfies x.predicate e.b ≡ true → Has x.found k ⊎ IsOwn (let_in tree path box x) (items ++ item session statement key number ∷ []) k n
     was_known p leaf e k n on there level has to good = elim (Has-append x.on (percolates tree x box path) p on) [
       | inl was ↦ elim (known p leaf e k n was there level has to good) [

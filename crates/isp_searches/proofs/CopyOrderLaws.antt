@@ -4,14 +4,14 @@ use Rattle.std.proofs.Common.{◌≡◌, inl, inr, ℕ, ◌==◌, true, false, L
 use Rattle.isp_mbr.specs.Corners.{Corners}
 use Rattle.isp_mbr.specs.Predicates.{may_hold}
 use Rattle.isp_mbr.specs.declared.predicate.Predicate.{Predicate}
-use Rattle.isp_rnode.specs.declared.entry.Entry.{Entry}
-use Rattle.isp_rnode.specs.Lists.{Has}
-use Rattle.isp_rnode.specs.Tree.{Tree, page_at, least}
-use Rattle.isp_rnode.specs.Forest.{Forest}
-use Rattle.isp_machine.specs.Steps.{split}
-use Rattle.isp_machine.specs.Place.{CanSplit, Division, CanRelieve}
-use Rattle.isp_machine.specs.Search.{Search}
-use Rattle.isp_machine.specs.Attach.{copied, box_of, copied_at_raise, copied_at_split, copied_up, copied_to_raised, copied_to_parts}
+use Rattle.isp_forest.specs.declared.entry.Entry.{Entry}
+use Rattle.isp_base.specs.Lists.{Has}
+use Rattle.isp_forest.specs.Tree.{Tree, page_at, least}
+use Rattle.isp_forest.specs.Forest.{Forest}
+use Rattle.isp_forest.specs.Steps.{split}
+use Rattle.isp_forest.specs.Place.{CanSplit, Division, CanRelieve}
+use Rattle.isp_forest.specs.Search.{Search}
+use Rattle.isp_forest.specs.Attach.{copied, box_of, copied_at_raise, copied_at_split, copied_up, copied_to_raised, copied_to_parts}
 use Rattle.isp_laws.proofs.RaiseLaws.{apart, turned}
 use Rattle.isp_laws.proofs.SplitLaws.{Splitting, split_is, split_keeps}
 use Rattle.isp_laws.proofs.SplitWalkLaws.{splitting}

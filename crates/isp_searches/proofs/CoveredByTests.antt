@@ -6,13 +6,13 @@ use Rattle.std.proofs.lemmas.Bool.Decides.{nat_tests}
 use Rattle.isp_mbr.specs.Predicates.{may_hold}
 use Rattle.isp_mbr.specs.declared.predicate.Predicate.{Predicate}
 use Rattle.isp_mbr.proofs.BoxLaws.{both}
-use Rattle.isp_rnode.specs.declared.entry.Entry.{Entry}
-use Rattle.isp_rnode.specs.Lists.{Has}
-use Rattle.isp_rnode.specs.Tree.{Page, Tree, page_at, counter, child_of}
-use Rattle.isp_rnode.specs.Walk.{IsWalk}
-use Rattle.isp_machine.specs.Steps.{is_among, names}
-use Rattle.isp_machine.specs.Place.{Names}
-use Rattle.isp_machine.specs.Search.{Search, Reached, Sees, IsRemembered, Covered}
+use Rattle.isp_forest.specs.declared.entry.Entry.{Entry}
+use Rattle.isp_base.specs.Lists.{Has}
+use Rattle.isp_forest.specs.Tree.{Node, Tree, page_at, counter, child_of}
+use Rattle.isp_forest.specs.Walk.{IsWalk}
+use Rattle.isp_forest.specs.Steps.{is_among, names}
+use Rattle.isp_forest.specs.Place.{Names}
+use Rattle.isp_forest.specs.Search.{Search, Reached, Sees, IsRemembered, Covered}
 use Rattle.isp_laws.proofs.ListLaws.{Has-append}
 use Rattle.isp_laws.proofs.CheckLaws.{has_all}
 use Rattle.isp_laws.proofs.WalkLaws.{walk_once}
@@ -24,11 +24,11 @@ abbrev pub sees_child : List ℕ → Option ℕ → Bool
 sees_child seen None = true
 sees_child seen (Some q) = is_among seen q
 
-abbrev pub sees_all : Predicate → List ℕ → Option Page → Bool
+abbrev pub sees_all : Predicate → List ℕ → Option Node → Bool
 sees_all predicate seen None = false
 sees_all predicate seen (Some page) = list_all (λ e. not (may_hold predicate e.b) || sees_child seen (child_of e)) page.entries
 
-there_of : (tree : Tree) (p : ℕ) (predicate : Predicate) (seen : List ℕ) (o : Option Page) → page_at tree p ≡ o → sees_all predicate seen o ≡ true → IsThere tree p
+there_of : (tree : Tree) (p : ℕ) (predicate : Predicate) (seen : List ℕ) (o : Option Node) → page_at tree p ≡ o → sees_all predicate seen o ≡ true → IsThere tree p
 there_of tree p predicate seen None e h = cc
 there_of tree p predicate seen (Some page) e h = (page, e)
 
@@ -36,7 +36,7 @@ right_part : (b c : Bool) → b ≡ true → (not b || c) ≡ true → c ≡ tru
 right_part true c h k = k
 right_part false c h k = cc
 
-child_seen : (predicate : Predicate) (seen : List ℕ) (q : ℕ) (page : Page) (e : Entry) → sees_all predicate seen (Some page) ≡ true → Has page.entries e → child_of e ≡ Some q → may_hold predicate e.b ≡ true → Has seen q
+child_seen : (predicate : Predicate) (seen : List ℕ) (q : ℕ) (page : Node) (e : Entry) → sees_all predicate seen (Some page) ≡ true → Has page.entries e → child_of e ≡ Some q → may_hold predicate e.b ≡ true → Has seen q
 child_seen predicate seen q page e all has to may =
     let one : (not (may_hold predicate e.b) || sees_child seen (child_of e)) ≡ true = has_all (λ (z : Entry). not (may_hold predicate z.b) || sees_child seen (child_of z)) page.entries e all has in
     among_has seen q (sym (ap (sees_child seen) to) ∙ right_part (may_hold predicate e.b) (sees_child seen (child_of e)) may one)
@@ -63,7 +63,7 @@ covered_done tree x done root all =
     covered_by_tests tree x [] (λ q h. absurd h) (λ p s h. absurd (subst (λ (st : List (ℕ × ℕ)). Has st (p, s)) done h)) root all
 
 -- with one page left to visit, whose walk is given
-pub covered_one : (tree : Tree) (x : Search) (p s : ℕ) (rest : List ℕ) (page : Page) → x.stack ≡ (p, s) ∷ [] → page_at tree p ≡ Some page → nat_le s (counter tree) ≡ true → IsWalk tree s (p ∷ rest)
+pub covered_one : (tree : Tree) (x : Search) (p s : ℕ) (rest : List ℕ) (page : Node) → x.stack ≡ (p, s) ∷ [] → page_at tree p ≡ Some page → nat_le s (counter tree) ≡ true → IsWalk tree s (p ∷ rest)
     → is_among (x.on ++ p ∷ rest) tree.root ≡ true → list_all (λ q. sees_all x.predicate (x.on ++ p ∷ rest) (page_at tree q)) x.on ≡ true → Covered tree x
 covered_one tree x p s rest page one there given walk root all =
     covered_by_tests tree x (p ∷ rest)
@@ -82,7 +82,7 @@ covered_one tree x p s rest page one there given walk root all =
 
 -- ---- not covered
 
-abbrev pub leads_to : Predicate → ℕ → Option Page → Bool
+abbrev pub leads_to : Predicate → ℕ → Option Node → Bool
 leads_to predicate q None = false
 leads_to predicate q (Some page) = list_any (λ e. names (λ c. c == q) (child_of e) && may_hold predicate e.b) page.entries
 
@@ -110,7 +110,7 @@ found_in predicate q (z ∷ es) h =
       | false ↦ λ t k. (let i : Found predicate q es = found_in predicate q es k in record { e = i.e; has = inr i.has; to = i.to; may = i.may })
     ] refl h
 
-leading : (tree : Tree) (predicate : Predicate) (p q : ℕ) (o : Option Page) → page_at tree p ≡ o → leads_to predicate q o ≡ true → Leading tree predicate p q
+leading : (tree : Tree) (predicate : Predicate) (p q : ℕ) (o : Option Node) → page_at tree p ≡ o → leads_to predicate q o ≡ true → Leading tree predicate p q
 leading tree predicate p q None e h = cc
 leading tree predicate p q (Some page) e h =
     let i : Found predicate q page.entries = found_in predicate q page.entries h in

@@ -6,11 +6,11 @@ use Rattle.isp_mbr.specs.Boxes.{IsBox, covers}
 use Rattle.isp_mbr.specs.Predicates.{satisfies, may_hold}
 use Rattle.isp_mbr.proofs.BoxLaws.{covers_refl, covers_trans}
 use Rattle.isp_mbr.proofs.Pruning.{may_hold_of_satisfying}
-use Rattle.isp_rnode.specs.declared.entry.Entry.{Entry}
-use Rattle.isp_rnode.specs.Lists.{Has}
-use Rattle.isp_rnode.specs.Tree.{Page, Tree, page_at}
-use Rattle.isp_rnode.specs.Forest.{Forest, IsBelow, IsPage}
-use Rattle.isp_machine.specs.Search.{Search, Item, Sees, IsOwn, Covered, Known}
+use Rattle.isp_forest.specs.declared.entry.Entry.{Entry}
+use Rattle.isp_base.specs.Lists.{Has}
+use Rattle.isp_forest.specs.Tree.{Node, Tree, page_at}
+use Rattle.isp_forest.specs.Forest.{Forest, IsBelow, IsPage}
+use Rattle.isp_forest.specs.Search.{Search, Item, Sees, IsOwn, Covered, Known}
 use Rattle.isp_laws.proofs.ForestLaws.{Above, above, below_root}
 use Rattle.isp_searches.specs.SearchLaws.{IsOnLeaf}
 
@@ -20,7 +20,7 @@ sees_on tree x done q (inr r) = absurd (subst (λ (st : List (ℕ × ℕ)). Has 
 
 -- where the search is on each page above it, it is on the page
 on_by_above : (tree : Tree) (f : Forest tree) (x : Search) → Covered tree x → x.stack ≡ [] → (b : Corners) → IsBox b → satisfies x.predicate b ≡ true
-    → (q : ℕ) (page : Page) (g : Entry) → page_at tree q ≡ Some page → Has page.entries g → covers g.b b ≡ true
+    → (q : ℕ) (page : Node) (g : Entry) → page_at tree q ≡ Some page → Has page.entries g → covers g.b b ≡ true
     → ((a : Above tree q) → covers (a.e).b b ≡ true → (a.names.page).level ≡ suc page.level → Has x.on a.p) → Has x.on q
 on_by_above tree f x c done b is_box good q page g there has round up =
     elim (q == tree.root) as (λ t. (q == tree.root) ≡ t → Has x.on q) [
@@ -34,7 +34,7 @@ on_by_above tree f x c done b is_box good q page g there has round up =
 
 -- a page with a box round one that satisfies the predicate, at most k levels below the root
 on_it : (tree : Tree) (f : Forest tree) (x : Search) → Covered tree x → x.stack ≡ [] → (b : Corners) → IsBox b → satisfies x.predicate b ≡ true
-    → (k q : ℕ) (page : Page) (g : Entry) → page_at tree q ≡ Some page → Has page.entries g → covers g.b b ≡ true → f.top.level ≤ page.level + k → Has x.on q
+    → (k q : ℕ) (page : Node) (g : Entry) → page_at tree q ≡ Some page → Has page.entries g → covers g.b b ≡ true → f.top.level ≤ page.level + k → Has x.on q
 on_it tree f x c done b is_box good zero q page g there has round high =
     on_by_above tree f x c done b is_box good q page g there has round (λ a round' level. elim (below_root tree f a.p a.names.page a.names.there) [
       | inl root ↦ subst (λ (z : ℕ). Has x.on z) (sym root) (sees_on tree x done tree.root c.root)

@@ -2,9 +2,9 @@
 use Rattle.std.proofs.Common.{◌≡◌, inl, inr, ℕ, ◌≤◌, true, List, sym, ◌∙◌, subst}
 use Rattle.isp_mbr.specs.Predicates.{satisfies, may_hold}
 use Rattle.isp_mbr.specs.declared.predicate.Predicate.{Predicate}
-use Rattle.isp_rnode.specs.Lists.{Has}
-use Rattle.isp_rnode.specs.Tree.{Tree}
-use Rattle.isp_machine.specs.Search.{Search, Item, Reached, Sees, Covered, Known}
+use Rattle.isp_base.specs.Lists.{Has}
+use Rattle.isp_forest.specs.Tree.{Tree}
+use Rattle.isp_forest.specs.Search.{Search, Item, Reached, Sees, Covered, Known}
 use Rattle.isp_searches.specs.SearchLaws.{IsLike}
 
 pub like_covered : (tree : Tree) (x y : Search) → IsLike x y → Covered tree x → Covered tree y

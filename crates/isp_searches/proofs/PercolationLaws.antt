@@ -8,14 +8,14 @@ use Rattle.isp_mbr.specs.Boxes.{union}
 use Rattle.isp_mbr.specs.Predicates.{may_hold}
 use Rattle.isp_mbr.specs.declared.predicate.Predicate.{Predicate}
 use Rattle.isp_mbr.proofs.BoxLaws.{both}
-use Rattle.isp_rnode.specs.declared.entry.Entry.{Entry}
-use Rattle.isp_rnode.specs.Lists.{Has, times}
-use Rattle.isp_rnode.specs.Tree.{Page, Tree, page_at, child_of, children, named}
-use Rattle.isp_rnode.specs.Forest.{Forest, IsBelow}
-use Rattle.isp_machine.specs.Steps.{is_among, names}
-use Rattle.isp_machine.specs.Place.{Names, IsPath}
-use Rattle.isp_machine.specs.Search.{Search}
-use Rattle.isp_machine.specs.Attach.{lets_in, lets_in_to, lets_in_from, percolated}
+use Rattle.isp_forest.specs.declared.entry.Entry.{Entry}
+use Rattle.isp_base.specs.Lists.{Has, times}
+use Rattle.isp_forest.specs.Tree.{Node, Tree, page_at, child_of, children, named}
+use Rattle.isp_forest.specs.Forest.{Forest, IsBelow}
+use Rattle.isp_forest.specs.Steps.{is_among, names}
+use Rattle.isp_forest.specs.Place.{Names, IsPath}
+use Rattle.isp_forest.specs.Search.{Search}
+use Rattle.isp_forest.specs.Attach.{lets_in, lets_in_to, lets_in_from, percolated}
 use Rattle.isp_laws.proofs.ListLaws.{Has-append, Has-append_left, Has-append_right}
 use Rattle.isp_laws.proofs.PageLaws.{There, times_of_page}
 use Rattle.isp_laws.proofs.EntryLaws.{times-children}
@@ -41,7 +41,7 @@ if_false true s t h = cc
 if_false false s t h = refl
 
 -- a page is named once
-once_named : (tree : Tree) → Forest tree → (p q : ℕ) (page : Page) → page_at tree p ≡ Some page → times q (children page.entries) ≤ 1
+once_named : (tree : Tree) → Forest tree → (p q : ℕ) (page : Node) → page_at tree p ≡ Some page → times q (children page.entries) ≤ 1
 once_named tree f p q page there =
     let grows : times q (named tree.pages) ≤ times q (tree.root ∷ named tree.pages) = omega arith in
     omega (arith, times_of_page tree.pages p page q there, f.by_one q, f.once q)
@@ -74,8 +74,8 @@ lets_in_from_is tree f predicate b p q e n =
 
 -- ---- a path goes down
 
-lower : (tree : Tree) → Forest tree → (p : ℕ) (rest : List ℕ) → IsPath tree (p ∷ rest) → (a : Page) → page_at tree p ≡ Some a
-    → (r : ℕ) (y : Page) → Has rest r → page_at tree r ≡ Some y → y.level < a.level
+lower : (tree : Tree) → Forest tree → (p : ℕ) (rest : List ℕ) → IsPath tree (p ∷ rest) → (a : Node) → page_at tree p ≡ Some a
+    → (r : ℕ) (y : Node) → Has rest r → page_at tree r ≡ Some y → y.level < a.level
 lower tree f p [] steps a there r y h k = absurd h
 lower tree f p (q ∷ rest) steps a there r y h k =
     let e : Entry = steps.0.0 in
@@ -83,11 +83,11 @@ lower tree f p (q ∷ rest) steps a there r y h k =
     let c : There tree.pages q = child_there tree f p q e n in
     let is : IsBelow e n.page c.page = f.below p q n.page c.page e n.there n.has n.to c.there in
     let same : n.page ≡ a = same_page (page_at tree p) n.page a n.there there in
-    let level : a.level ≡ suc c.page.level = ap (λ (z : Page). z.level) (sym same) ∙ is.level in
+    let level : a.level ≡ suc c.page.level = ap (λ (z : Node). z.level) (sym same) ∙ is.level in
     elim h [
       | inl here ↦ (let at : page_at tree r ≡ Some c.page = subst (λ (z : ℕ). page_at tree z ≡ Some c.page) here c.there in
           let same' : y ≡ c.page = same_page (page_at tree r) y c.page k at in
-          let level' : y.level ≡ c.page.level = ap (λ (z : Page). z.level) same' in
+          let level' : y.level ≡ c.page.level = ap (λ (z : Node). z.level) same' in
           omega arith)
       | inr more ↦ (let less : y.level < c.page.level = lower tree f q rest steps.1 c.page c.there r y more k in omega arith)
     ]

@@ -2,12 +2,12 @@
 use Rattle.std.proofs.Common.{ℕ, ℤ, List, [], ◌∷◌, ◌++◌, reverse}
 use Rattle.isp_mbr.specs.Corners.{Corners}
 use Rattle.isp_mbr.specs.Boxes.{IsBox}
-use Rattle.isp_rnode.specs.Tree.{Tree}
-use Rattle.isp_rnode.specs.Forest.{Forest}
-use Rattle.isp_machine.specs.Steps.{add, raise, split}
-use Rattle.isp_machine.specs.Place.{Stands, Division, relieve, CanRaise, CanRelieve, place}
-use Rattle.isp_machine.specs.Search.{Search, Item, Covered, Known}
-use Rattle.isp_machine.specs.Attach.{let_in, copied_at_raise, copied_at_split, copied_up, attached}
+use Rattle.isp_forest.specs.Tree.{Tree}
+use Rattle.isp_forest.specs.Forest.{Forest}
+use Rattle.isp_forest.specs.Steps.{add, raise, split}
+use Rattle.isp_forest.specs.Place.{Stands, Division, relieve, CanRaise, CanRelieve, place}
+use Rattle.isp_forest.specs.Search.{Search, Item, Covered, Known}
+use Rattle.isp_forest.specs.Attach.{let_in, copied_at_raise, copied_at_split, copied_up, attached}
 use Rattle.isp_laws.proofs.AddLaws.{add_keeps}
 use Rattle.isp_laws.proofs.RaiseLaws.{raise_keeps}
 use Rattle.isp_laws.proofs.SplitLaws.{split_keeps}

@@ -4,15 +4,15 @@ use Rattle.std.proofs.Common.{◌≡◌, ◌⊎◌, inl, inr, ℕ, ℤ, suc, ◌
 use Rattle.isp_mbr.specs.Corners.{Corners}
 use Rattle.isp_mbr.specs.Predicates.{may_hold}
 use Rattle.isp_mbr.proofs.BoxLaws.{both}
-use Rattle.isp_rnode.specs.declared.entry.Entry.{Entry}
-use Rattle.isp_rnode.specs.Lists.{Has}
-use Rattle.isp_rnode.specs.Tree.{Page, Tree, page_at, counter, ssn_of, child_of, least}
-use Rattle.isp_rnode.specs.Forest.{Forest}
-use Rattle.isp_rnode.specs.Walk.{onward}
-use Rattle.isp_machine.specs.Steps.{is_among, put, raised, raise}
-use Rattle.isp_machine.specs.Place.{Names, IsFree}
-use Rattle.isp_machine.specs.Search.{Search, Item, Sees, IsOwn, Covered, Known}
-use Rattle.isp_machine.specs.Attach.{copied, box_of, copied_at_raise}
+use Rattle.isp_forest.specs.declared.entry.Entry.{Entry}
+use Rattle.isp_base.specs.Lists.{Has}
+use Rattle.isp_forest.specs.Tree.{Node, Tree, page_at, counter, ssn_of, child_of, least}
+use Rattle.isp_forest.specs.Forest.{Forest}
+use Rattle.isp_forest.specs.Walk.{onward}
+use Rattle.isp_forest.specs.Steps.{is_among, put, raised, raise}
+use Rattle.isp_forest.specs.Place.{Names, IsFree}
+use Rattle.isp_forest.specs.Search.{Search, Item, Sees, IsOwn, Covered, Known}
+use Rattle.isp_forest.specs.Attach.{copied, box_of, copied_at_raise}
 use Rattle.isp_laws.proofs.ListLaws.{Has-append, Has-append_left, Has-append_right}
 use Rattle.isp_laws.proofs.PageLaws.{page_in-put_same, page_in-put_other}
 use Rattle.isp_laws.proofs.ForestLaws.{counter_is}
@@ -51,16 +51,16 @@ free_not_on tree x c q free on = let t : IsThere tree q = c.pages q on in let th
 
 -- ---- the raised tree
 
-abbrev after : Tree → Page → ℕ → Tree
+abbrev after : Tree → Node → ℕ → Tree
 after tree top q = raised tree q (Some top)
 
 -- which page it is: the root, the page that took its entries, or another
-record Is (tree : Tree) (top : Page) (q p : ℕ) (page : Page) : Type 0 where
+record Is (tree : Tree) (top : Node) (q p : ℕ) (page : Node) : Type 0 where
   not_root : (tree.root == p) ≡ false
   not_new : (q == p) ≡ false
   there : page_at tree p ≡ Some page
 
-what : (tree : Tree) (top : Page) (q p : ℕ) (page : Page) → page_at (after tree top q) p ≡ Some page
+what : (tree : Tree) (top : Node) (q p : ℕ) (page : Node) → page_at (after tree top q) p ≡ Some page
     → IsPut tree.root p (lifted top q) page ⊎ (IsPut q p (moved top) page ⊎ Is tree top q p page)
 what tree top q p page h = elim (put_or_other tree.root p (lifted top q) page (put q (moved top) tree.pages) h) [
   | inl root ↦ inl root
@@ -100,7 +100,7 @@ module _ (tree : Tree) (f : Forest tree) (q : ℕ) (free : IsFree tree q) where
   child : (x : Search) → Covered tree x → (p r : ℕ) (e : Entry) → Has (copied tree.root q (least f.top.entries) x).on p → Names (after tree f.top q) p r e → may_hold x.predicate e.b ≡ true
       → Sees (after tree f.top q) (copied tree.root q (least f.top.entries) x) r
   child x c p r e on n may = elim (what tree f.top q p n.page n.there) [
-    | inl root ↦ (let has : Has (lifted f.top q).entries e = subst (λ (z : Page). Has z.entries e) (sym root.is) n.has in
+    | inl root ↦ (let has : Has (lifted f.top q).entries e = subst (λ (z : Node). Has z.entries e) (sym root.is) n.has in
         elim has [
           | inl same_e ↦ (let to : Some q ≡ Some r = ap child_of same_e ∙ n.to in
               let at : q ≡ r = cc in
@@ -113,7 +113,7 @@ module _ (tree : Tree) (f : Forest tree) (q : ℕ) (free : IsFree tree q) where
           | inr none ↦ absurd none
         ])
     | inr more ↦ elim more [
-      | inl new ↦ (let has : Has f.top.entries e = subst (λ (z : Page). Has z.entries e) (sym new.is) n.has in
+      | inl new ↦ (let has : Has f.top.entries e = subst (λ (z : Node). Has z.entries e) (sym new.is) n.has in
           let on_root : Has x.on tree.root = elim (on_copied tree.root q (least f.top.entries) x p on) [
             | inl was ↦ absurd (free_not_on tree x c q free (subst (λ (z : ℕ). Has x.on z) (sym new.at) was))
             | inr copy ↦ copy.1
@@ -139,10 +139,10 @@ module _ (tree : Tree) (f : Forest tree) (q : ℕ) (free : IsFree tree q) where
 
   raised_known : (x : Search) (items : List Item) → Covered tree x → Known tree x items → Known (after tree f.top q) (copied tree.root q (least f.top.entries) x) items
   raised_known x items c known = λ p leaf e k n on there level has to good. elim (what tree f.top q p leaf there) [
-    | inl root ↦ (let up : suc f.top.level ≡ 0 = ap (λ (z : Page). z.level) root.is ∙ level in absurd (omega arith))
+    | inl root ↦ (let up : suc f.top.level ≡ 0 = ap (λ (z : Node). z.level) root.is ∙ level in absurd (omega arith))
     | inr more ↦ elim more [
-      | inl new ↦ (let has' : Has f.top.entries e = subst (λ (z : Page). Has z.entries e) (sym new.is) has in
-          let level' : f.top.level ≡ 0 = ap (λ (z : Page). z.level) new.is ∙ level in
+      | inl new ↦ (let has' : Has f.top.entries e = subst (λ (z : Node). Has z.entries e) (sym new.is) has in
+          let level' : f.top.level ≡ 0 = ap (λ (z : Node). z.level) new.is ∙ level in
           let on_root : Has x.on tree.root = elim (on_copied tree.root q (least f.top.entries) x p on) [
             | inl was ↦ absurd (free_not_on tree x c q free (subst (λ (z : ℕ). Has x.on z) (sym new.at) was))
             | inr copy ↦ copy.1

@@ -2,12 +2,12 @@
 use Rattle.std.proofs.Common.{◌≡◌, inl, inr, ℕ, ◌≤◌, ◌==◌, Bool, true, false, cond, Option, Some, None, List, [], ◌∷◌, refl, ap, ◌∙◌, arith, subst, eqb-true, eq-eqb, ◌||◌}
 use Rattle.std.specs.Prelude.{nat_lt}
 use Rattle.std.proofs.lemmas.Bool.Decides.{nat_tests}
-use Rattle.isp_rnode.specs.Lists.{Has}
-use Rattle.isp_rnode.specs.Tree.{Page, Tree, page_at, counter}
-use Rattle.isp_rnode.specs.Forest.{Forest, IsPage}
-use Rattle.isp_rnode.specs.Walk.{onward, split_since}
-use Rattle.isp_machine.specs.Steps.{is_among}
-use Rattle.isp_machine.specs.Search.{Search, Reached, Sees, IsRemembered}
+use Rattle.isp_base.specs.Lists.{Has}
+use Rattle.isp_forest.specs.Tree.{Node, Tree, page_at, counter}
+use Rattle.isp_forest.specs.Forest.{Forest, IsPage}
+use Rattle.isp_forest.specs.Walk.{onward, split_since}
+use Rattle.isp_forest.specs.Steps.{is_among}
+use Rattle.isp_forest.specs.Search.{Search, Reached, Sees, IsRemembered}
 use Rattle.isp_laws.proofs.WalkLaws.{walk_same}
 
 -- ---- tests
@@ -35,7 +35,7 @@ not_both b h k = cc
 -- ---- pages that are there
 
 abbrev pub IsThere : Tree → ℕ → Type 0
-IsThere tree p = (page : Page) × (page_at tree p ≡ Some page)
+IsThere tree p = (page : Node) × (page_at tree p ≡ Some page)
 
 -- ---- a tree that changes, where its walks stay
 
@@ -72,7 +72,7 @@ if_not : (b : Bool) (o : Option ℕ) → b ≡ false → cond b o None ≡ None
 if_not true o h = cc
 if_not false o h = refl
 
-pub stays_here : (tree : Tree) → Forest tree → (p : ℕ) (page : Page) → page_at tree p ≡ Some page → onward tree (counter tree) p ≡ None
+pub stays_here : (tree : Tree) → Forest tree → (p : ℕ) (page : Node) → page_at tree p ≡ Some page → onward tree (counter tree) p ≡ None
 stays_here tree f p page there =
     let is : IsPage tree p page = f.each p page there in
     let numbered : page.ssn ≤ counter tree = is.numbered in

@@ -5,16 +5,16 @@ use Rattle.isp_mbr.specs.Corners.{Corners}
 use Rattle.isp_mbr.specs.Boxes.{covers}
 use Rattle.isp_mbr.specs.Predicates.{may_hold}
 use Rattle.isp_mbr.proofs.Pruning.{may_hold_grows}
-use Rattle.isp_rnode.specs.declared.entry.Entry.{Entry}
-use Rattle.isp_rnode.specs.declared.entry.To.TheVariants.{Row}
-use Rattle.isp_rnode.specs.Lists.{Has}
-use Rattle.isp_rnode.specs.Tree.{Page, Tree, page_at, counter, child_in, child_of, least}
-use Rattle.isp_rnode.specs.Forest.{Forest, IsBelow}
-use Rattle.isp_rnode.specs.Walk.{IsWalk}
-use Rattle.isp_machine.specs.Steps.{names, reboxed, split, put_after}
-use Rattle.isp_machine.specs.Place.{Names, CanSplit}
-use Rattle.isp_machine.specs.Search.{Search, Item, Reached, Sees, IsRemembered, IsOwn, Covered, Known}
-use Rattle.isp_machine.specs.Attach.{copied, copied_at_split}
+use Rattle.isp_forest.specs.declared.entry.Entry.{Entry}
+use Rattle.isp_forest.specs.declared.entry.To.TheVariants.{Row}
+use Rattle.isp_base.specs.Lists.{Has}
+use Rattle.isp_forest.specs.Tree.{Node, Tree, page_at, counter, child_in, child_of, least}
+use Rattle.isp_forest.specs.Forest.{Forest, IsBelow}
+use Rattle.isp_forest.specs.Walk.{IsWalk}
+use Rattle.isp_forest.specs.Steps.{names, reboxed, split, put_after}
+use Rattle.isp_forest.specs.Place.{Names, CanSplit}
+use Rattle.isp_forest.specs.Search.{Search, Item, Reached, Sees, IsRemembered, IsOwn, Covered, Known}
+use Rattle.isp_forest.specs.Attach.{copied, copied_at_split}
 use Rattle.isp_laws.proofs.EntryLaws.{least_inside}
 use Rattle.isp_laws.proofs.RaiseLaws.{apart, turned}
 use Rattle.isp_laws.proofs.SplitLaws.{Splitting, gone, round, after_split, split_is, n_not_o, below_above, at_n, what, counter_grows, in_left, in_right, entry_of, Still, still_there}
@@ -110,7 +110,7 @@ may_at : (b : Bool) (x : Search) (u v w : Corners) → (may_hold x.predicate u �
 may_at true x u v w f g h = f h
 may_at false x u v w f g h = g h
 
-from_round : (c : Splitting) (x : Search) → Covered c.tree x → (p q : ℕ) (old : Page) (e : Entry) → page_at c.tree p ≡ Some old → Has x.on p → Has (round c p old).entries e → child_of e ≡ Some q
+from_round : (c : Splitting) (x : Search) → Covered c.tree x → (p q : ℕ) (old : Node) (e : Entry) → page_at c.tree p ≡ Some old → Has x.on p → Has (round c p old).entries e → child_of e ≡ Some q
     → may_hold x.predicate e.b ≡ true → Sees (after_split c) (after c x) q
 from_round c x covered p q old e there on has to may = elim (entry_of c p old e has) [
   | inl w ↦ (let to' : child_of w.old ≡ Some q = ap child_of w.is ∙ to in
@@ -139,14 +139,14 @@ from_round c x covered p q old e there on has to may = elim (entry_of c p old e 
 
 child : (c : Splitting) (x : Search) → Covered c.tree x → (p q : ℕ) (e : Entry) → Has (after c x).on p → Names (after_split c) p q e → may_hold x.predicate e.b ≡ true → Sees (after_split c) (after c x) q
 child c x covered p q e on n may = elim (what c p n.page n.there) [
-  | inl new ↦ (let has : Has c.right e = subst (λ (z : Page). Has z.entries e) (sym new.is) n.has in
+  | inl new ↦ (let has : Has c.right e = subst (λ (z : Node). Has z.entries e) (sym new.is) n.has in
       let named : Names c.tree c.o q e = record { page = c.can.page; there = c.can.there; has = in_right c e has; to = n.to } in
       sees c x covered q (covered.children c.o q e (on_split c x covered p new.at on) named may))
   | inr more ↦ elim more [
-    | inl stay ↦ (let has : Has c.left e = subst (λ (z : Page). Has z.entries e) (sym stay.is) n.has in
+    | inl stay ↦ (let has : Has c.left e = subst (λ (z : Node). Has z.entries e) (sym stay.is) n.has in
         let named : Names c.tree c.o q e = record { page = c.can.page; there = c.can.there; has = in_left c e has; to = n.to } in
         sees c x covered q (covered.children c.o q e (at_split stay.at) named may))
-    | inr old ↦ (let has : Has (round c p old.old).entries e = subst (λ (z : Page). Has z.entries e) (sym old.is) n.has in
+    | inr old ↦ (let has : Has (round c p old.old).entries e = subst (λ (z : Node). Has z.entries e) (sym old.is) n.has in
         from_round c x covered p q old.old e old.there (on_old c x p old.not_n on) has n.to may)
   ]
 ]
@@ -181,7 +181,7 @@ same_own c x items k n (inl found) = inl found
 same_own c x items k n (inr o) = inr (record { item = o.item; among = o.among; session = o.session; later = o.later; same_key = o.same_key; same_number = o.same_number })
 
 -- a row's entry on any other page was there
-row_was_there : (c : Splitting) (p : ℕ) (old : Page) (e : Entry) (k : ℤ) (n : ℕ) → Has (round c p old).entries e → e.to ≡ Row k n → Has old.entries e
+row_was_there : (c : Splitting) (p : ℕ) (old : Node) (e : Entry) (k : ℤ) (n : ℕ) → Has (round c p old).entries e → e.to ≡ Row k n → Has old.entries e
 row_was_there c p old e k n has to = elim (entry_of c p old e has) [
   | inl w ↦ (let to' : (w.old).to ≡ Row k n = ap (λ (z : Entry). z.to) w.is ∙ to in
       let none : names (λ z. z == c.o) (child_of w.old) ≡ false = ap (λ t. names (λ z. z == c.o) (child_in t)) to' in
@@ -198,16 +198,16 @@ row_was_there c p old e k n has to = elim (entry_of c p old e has) [
 
 split_known_of : (c : Splitting) (x : Search) (items : List Item) → Covered c.tree x → Known c.tree x items → Known (after_split c) (after c x) items
 split_known_of c x items covered known = λ p leaf e k n on there level has to good. elim (what c p leaf there) [
-  | inl new ↦ (let has' : Has c.right e = subst (λ (z : Page). Has z.entries e) (sym new.is) has in
-      let level' : c.can.page.level ≡ 0 = ap (λ (z : Page). z.level) new.is ∙ level in
+  | inl new ↦ (let has' : Has c.right e = subst (λ (z : Node). Has z.entries e) (sym new.is) has in
+      let level' : c.can.page.level ≡ 0 = ap (λ (z : Node). z.level) new.is ∙ level in
       same_own c x items k n (known c.o c.can.page e k n (on_split c x covered p new.at on) c.can.there level' (in_right c e has') to good))
   | inr more ↦ elim more [
-    | inl stay ↦ (let has' : Has c.left e = subst (λ (z : Page). Has z.entries e) (sym stay.is) has in
-        let level' : c.can.page.level ≡ 0 = ap (λ (z : Page). z.level) stay.is ∙ level in
+    | inl stay ↦ (let has' : Has c.left e = subst (λ (z : Node). Has z.entries e) (sym stay.is) has in
+        let level' : c.can.page.level ≡ 0 = ap (λ (z : Node). z.level) stay.is ∙ level in
         let on' : Has x.on c.o = on_old c x c.o (n_not_o c) (subst (λ (z : ℕ). Has (after c x).on z) (sym stay.at) on) in
         same_own c x items k n (known c.o c.can.page e k n on' c.can.there level' (in_left c e has') to good))
-    | inr old ↦ (let has' : Has (round c p old.old).entries e = subst (λ (z : Page). Has z.entries e) (sym old.is) has in
-        let level' : old.old.level ≡ 0 = ap (λ (z : Page). z.level) old.is ∙ level in
+    | inr old ↦ (let has' : Has (round c p old.old).entries e = subst (λ (z : Node). Has z.entries e) (sym old.is) has in
+        let level' : old.old.level ≡ 0 = ap (λ (z : Node). z.level) old.is ∙ level in
         same_own c x items k n (known p old.old e k n (on_old c x p old.not_n on) old.there level' (row_was_there c p old.old e k n has' to) to good))
   ]
 ]

@@ -4,17 +4,17 @@ use Rattle.std.proofs.Common.{◌≡◌, ◌⊎◌, inl, inr, ℕ, ℤ, ◌==◌
 use Rattle.std.specs.Prelude.{is_none, nat_lt}
 use Rattle.isp_mbr.specs.Predicates.{satisfies, may_hold}
 use Rattle.isp_mbr.specs.declared.predicate.Predicate.{Predicate}
-use Rattle.isp_rnode.specs.declared.entry.Entry.{Entry}
-use Rattle.isp_rnode.specs.declared.entry.To.{To}
-use Rattle.isp_rnode.specs.declared.entry.To.TheVariants.{Row}
-use Rattle.isp_rnode.specs.Lists.{Has}
-use Rattle.isp_rnode.specs.Tree.{Page, Tree, page_at, counter, child_of}
-use Rattle.isp_rnode.specs.Forest.{Forest, IsPage, IsLinked}
-use Rattle.isp_rnode.specs.Walk.{onward, split_since, IsWalk}
-use Rattle.isp_machine.specs.Steps.{is_among}
-use Rattle.isp_machine.specs.Place.{Names}
-use Rattle.isp_machine.specs.Search.{Search, Item, Reached, Sees, IsRemembered, IsOwn, Covered, Known}
-use Rattle.isp_machine.specs.Visit.{remembered, to_visit, key_in, to_find, begun, looked_at, visited_at, visit}
+use Rattle.isp_forest.specs.declared.entry.Entry.{Entry}
+use Rattle.isp_forest.specs.declared.entry.To.{To}
+use Rattle.isp_forest.specs.declared.entry.To.TheVariants.{Row}
+use Rattle.isp_base.specs.Lists.{Has}
+use Rattle.isp_forest.specs.Tree.{Node, Tree, page_at, counter, child_of}
+use Rattle.isp_forest.specs.Forest.{Forest, IsPage, IsLinked}
+use Rattle.isp_forest.specs.Walk.{onward, split_since, IsWalk}
+use Rattle.isp_forest.specs.Steps.{is_among}
+use Rattle.isp_forest.specs.Place.{Names}
+use Rattle.isp_forest.specs.Search.{Search, Item, Reached, Sees, IsRemembered, IsOwn, Covered, Known}
+use Rattle.isp_forest.specs.Visit.{remembered, to_visit, key_in, to_find, begun, looked_at, visited_at, visit}
 use Rattle.isp_laws.proofs.ListLaws.{Has-append, Has-append_left, Has-append_right}
 use Rattle.isp_laws.proofs.PageLaws.{There}
 use Rattle.isp_laws.proofs.ForestLaws.{same_page, child_there}
@@ -91,7 +91,7 @@ found_of predicate (z ∷ es) e key number (inr h) to good =
     Has-append_right (cond (satisfies predicate z.b) (key_in z.to) []) (to_find predicate es) key (found_of predicate es e key number h to good)
 
 -- the right link of a page that was split since
-linked_there : (tree : Tree) → Forest tree → (s p : ℕ) (page : Page) (r : ℕ) → page_at tree p ≡ Some page → split_since s (Some page) ≡ Some r → IsThere tree r
+linked_there : (tree : Tree) → Forest tree → (s p : ℕ) (page : Node) (r : ℕ) → page_at tree p ≡ Some page → split_since s (Some page) ≡ Some r → IsThere tree r
 linked_there tree f s p page r there to =
     let next : page.next ≡ Some r = next_of (nat_lt s page.ssn) page.next r to in
     let is : IsLinked tree page r = f.linked p r page there next in
@@ -113,7 +113,7 @@ record Visiting : Type 0 where
   s : ℕ
   stack : x.stack ≡ rest ++ (p, s) ∷ []
   covered : Covered tree x
-  page : Page
+  page : Node
   there : page_at tree p ≡ Some page
 
 abbrev link_of : Visiting → List (ℕ × ℕ)
@@ -244,7 +244,7 @@ seen_first v = record {
     child_of_new : (r : ℕ) (e : Entry) → Names v.tree v.p r e → may_hold v.x.predicate e.b ≡ true → Sees v.tree (looked v) r
     child_of_new r e n may =
         let same : n.page ≡ v.page = same_page (page_at v.tree v.p) n.page v.page n.there v.there in
-        let has : Has v.page.entries e = subst (λ (z : Page). Has z.entries e) same n.has in
+        let has : Has v.page.entries e = subst (λ (z : Node). Has z.entries e) same n.has in
         let is : IsPage v.tree v.p v.page = v.f.each v.p v.page v.there in
         let inner : (v.page.level == 0) ≡ false = sym (is.kinds e has) ∙ ap is_none n.to in
         let c : There v.tree.pages r = child_there v.tree v.f v.p r e n in
@@ -271,11 +271,11 @@ visit_covered tree x rest p s f stack covered =
     let top : Has x.stack (p, s) = subst (λ (st : List (ℕ × ℕ)). Has st (p, s)) (sym stack) (Has-append_right rest ((p, s) ∷ []) (p, s) (inl refl)) in
     let is : IsRemembered tree p s = covered.stack p s top in
     let v : Visiting = record { tree = tree; f = f; x = x; rest = rest; p = p; s = s; stack = stack; covered = covered; page = is.page; there = is.there } in
-    subst (λ (o : Option Page). Covered tree (visited_at tree p s o (record x { stack = rest }))) (sym is.there) (visiting_covered v)
+    subst (λ (o : Option Node). Covered tree (visited_at tree p s o (record x { stack = rest }))) (sym is.there) (visiting_covered v)
 
 -- ---- known
 
-known_at : (tree : Tree) (x : Search) (items : List Item) (rest : List (ℕ × ℕ)) (p s : ℕ) → Known tree x items → (o : Option Page) → page_at tree p ≡ o
+known_at : (tree : Tree) (x : Search) (items : List Item) (rest : List (ℕ × ℕ)) (p s : ℕ) → Known tree x items → (o : Option Node) → page_at tree p ≡ o
     → Known tree (visited_at tree p s o (record x { stack = rest })) items
 known_at tree x items rest p s known None there = λ q leaf e k n on at level has to good. again x items k n (known q leaf e k n on at level has to good)
   where
@@ -296,8 +296,8 @@ known_at tree x items rest p s known (Some page) there =
         | inr new ↦ elim new [
           | inl here ↦ (let at' : page_at tree p ≡ Some leaf = subst (λ (z : ℕ). page_at tree z ≡ Some leaf) (sym here) at in
               let same : leaf ≡ page = same_page (page_at tree p) leaf page at' there in
-              let has' : Has page.entries e = subst (λ (z : Page). Has z.entries e) same has in
-              let level' : (page.level == 0) ≡ true = ap (λ (z : Page). z.level == 0) (sym same) ∙ eq-eqb leaf.level 0 level in
+              let has' : Has page.entries e = subst (λ (z : Node). Has z.entries e) same has in
+              let level' : (page.level == 0) ≡ true = ap (λ (z : Node). z.level == 0) (sym same) ∙ eq-eqb leaf.level 0 level in
               let found : Has (to_find x.predicate page.entries) k = found_of x.predicate page.entries e k n has' to good in
               inl (Has-append_right x.found (cond (page.level == 0) (to_find x.predicate page.entries) []) k
               (subst (λ (b : Bool). Has (cond b (to_find x.predicate page.entries) []) k) (sym level') found)))

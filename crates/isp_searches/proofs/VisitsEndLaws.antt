@@ -2,12 +2,12 @@
 -- before it.
 use Rattle.std.proofs.Common.{◌≡◌, ◌⊎◌, inl, inr, ℕ, zero, suc, ◌<◌, ◌≤◌, Bool, true, false, cond, Option, Some, None, List, [], ◌∷◌, ◌++◌, length, refl, ap, sym, ◌∙◌, arith, subst, length-append}
 use Rattle.std.specs.Prelude.{not, filter, nat_lt}
-use Rattle.isp_rnode.specs.Lists.{Has}
-use Rattle.isp_rnode.specs.Tree.{Page, Tree, page_at, counter, numbers}
-use Rattle.isp_rnode.specs.Walk.{split_since, right_of, link, EndsAfter, Links, LinkedForest}
-use Rattle.isp_machine.specs.Steps.{is_among}
-use Rattle.isp_machine.specs.Search.{Search, IsRemembered, Covered}
-use Rattle.isp_machine.specs.Visit.{remembered, looked_at, visited_at, visit}
+use Rattle.isp_base.specs.Lists.{Has}
+use Rattle.isp_forest.specs.Tree.{Node, Tree, page_at, counter, numbers}
+use Rattle.isp_forest.specs.Walk.{split_since, right_of, link, EndsAfter, Links, LinkedForest}
+use Rattle.isp_forest.specs.Steps.{is_among}
+use Rattle.isp_forest.specs.Search.{Search, IsRemembered, Covered}
+use Rattle.isp_forest.specs.Visit.{remembered, looked_at, visited_at, visit}
 use Rattle.isp_laws.proofs.ListLaws.{Has-append_left, Has-append_right, Has-times}
 use Rattle.isp_laws.proofs.PageLaws.{times_there}
 use Rattle.isp_searches.specs.SearchLaws.{IsVisit, Visits, away, Behind, ComesNearer}
@@ -99,7 +99,7 @@ not_true : (b : Bool) → b ≡ true → not b ≡ false
 not_true true h = refl
 not_true false h = cc
 
-closer : (tree : Tree) (on : List ℕ) (p : ℕ) (page : Page) → page_at tree p ≡ Some page → is_among on p ≡ false
+closer : (tree : Tree) (on : List ℕ) (p : ℕ) (page : Node) → page_at tree p ≡ Some page → is_among on p ≡ false
     → length (filter (λ q. not (is_among (on ++ p ∷ []) q)) (numbers tree.pages)) < length (filter (λ q. not (is_among on q)) (numbers tree.pages))
 closer tree on p page there new =
     fewer (λ q. not (is_among (on ++ p ∷ []) q)) (λ q. not (is_among on q)) less (numbers tree.pages) p (Has-times p (numbers tree.pages) (times_there tree.pages p page there))
@@ -113,7 +113,7 @@ closer tree on p page there new =
 
 -- ---- a visit comes nearer
 
-next_of : (s : ℕ) (page : Page) (r : ℕ) → split_since s (Some page) ≡ Some r → page.next ≡ Some r
+next_of : (s : ℕ) (page : Node) (r : ℕ) → split_since s (Some page) ≡ Some r → page.next ≡ Some r
 next_of s page r h = elim (nat_lt s page.ssn) as (λ b. cond b page.next None ≡ Some r → page.next ≡ Some r) [ true ↦ λ k. k | false ↦ λ k. cc ] h
 
 one_less : (tree : Tree) (n p r : ℕ) → link tree p ≡ Some r → EndsAfter tree n p → (m : ℕ) × (n ≡ suc m) × EndsAfter tree m r
@@ -128,7 +128,7 @@ behind_one tree y rest r s m is ends = λ rest' p' s' is'. (
     let same : (r, s) ≡ (p', s') = same_last rest rest' (r, s) (p', s') (sym is ∙ is') in
     subst (λ (z : ℕ × ℕ). EndsAfter tree m z.0) same ends)
 
-seen_nearer : (tree : Tree) (x : Search) (rest : List (ℕ × ℕ)) (p s : ℕ) (page : Page) → x.stack ≡ rest ++ (p, s) ∷ [] → page_at tree p ≡ Some page → (o : Option ℕ) → split_since s (Some page) ≡ o
+seen_nearer : (tree : Tree) (x : Search) (rest : List (ℕ × ℕ)) (p s : ℕ) (page : Node) → x.stack ≡ rest ++ (p, s) ∷ [] → page_at tree p ≡ Some page → (o : Option ℕ) → split_since s (Some page) ≡ o
     → ComesNearer tree x (record x { stack = rest ++ remembered s o })
 seen_nearer tree x rest p s page stack there None e = inr (
   refl,
@@ -150,7 +150,7 @@ seen_nearer tree x rest p s page stack there (Some r) e =
       ),
     )
 
-nearer_at : (tree : Tree) (x : Search) (rest : List (ℕ × ℕ)) (p s : ℕ) (page : Page) → x.stack ≡ rest ++ (p, s) ∷ [] → page_at tree p ≡ Some page
+nearer_at : (tree : Tree) (x : Search) (rest : List (ℕ × ℕ)) (p s : ℕ) (page : Node) → x.stack ≡ rest ++ (p, s) ∷ [] → page_at tree p ≡ Some page
     → ComesNearer tree x (visited_at tree p s (Some page) (record x { stack = rest }))
 nearer_at tree x rest p s page stack there =
     elim (is_among x.on p) as (λ b. is_among x.on p ≡ b → ComesNearer tree x (cond b (record x { stack = rest ++ remembered s (split_since s (Some page)) }) (looked_at (counter tree) page p (record x { stack = rest ++ remembered s (split_since s (Some page)) })))) [
@@ -165,7 +165,7 @@ top_remembered tree x covered rest p s stack =
 pub visit_nearer : (tree : Tree) (x y : Search) → LinkedForest tree → Covered tree x → IsVisit tree x y → ComesNearer tree x y
 visit_nearer tree x y whole covered v =
     let is : IsRemembered tree v.p v.s = top_remembered tree x covered v.rest v.p v.s v.stack in
-    let near : ComesNearer tree x (visit tree v.rest v.p v.s x) = subst (λ (o : Option Page). ComesNearer tree x (visited_at tree v.p v.s o (record x { stack = v.rest }))) (sym is.there) (nearer_at tree x v.rest v.p v.s is.page v.stack is.there) in
+    let near : ComesNearer tree x (visit tree v.rest v.p v.s x) = subst (λ (o : Option Node). ComesNearer tree x (visited_at tree v.p v.s o (record x { stack = v.rest }))) (sym is.there) (nearer_at tree x v.rest v.p v.s is.page v.stack is.there) in
     subst (ComesNearer tree x) v.is near
 
 -- ---- visits end

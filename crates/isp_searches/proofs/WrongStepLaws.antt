@@ -1,11 +1,11 @@
 -- The nine wrong steps, the whole runs and the tests of inserts, by computation.
 use Rattle.std.proofs.Common.{◌≡◌, inl, inr, ℤ, pos, false, List, [], ◌∷◌, map, refl}
 use Rattle.std.specs.Prelude.{unsigned_abs}
-use Rattle.isp_rnode.specs.Lists.{Has}
-use Rattle.isp_rnode.specs.Tree.{numbers}
-use Rattle.isp_rnode.specs.Walk.{LinkedForest}
-use Rattle.isp_machine.specs.Steps.{is_among}
-use Rattle.isp_machine.specs.Visit.{visit}
+use Rattle.isp_base.specs.Lists.{Has}
+use Rattle.isp_forest.specs.Tree.{numbers}
+use Rattle.isp_forest.specs.Walk.{LinkedForest}
+use Rattle.isp_forest.specs.Steps.{is_among}
+use Rattle.isp_forest.specs.Visit.{visit}
 use Rattle.isp_laws.proofs.ListLaws.{Has-map_of}
 use Rattle.isp_laws.specs.Examples.{four_points, five_points, seven_points}
 use Rattle.isp_laws.proofs.CheckLaws.{forest_by_tests, links_by_tests, once_by_test}

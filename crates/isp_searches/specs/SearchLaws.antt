@@ -6,17 +6,17 @@ use Rattle.isp_mbr.specs.Corners.{Corners}
 use Rattle.isp_mbr.specs.Boxes.{IsBox}
 use Rattle.isp_mbr.specs.Predicates.{satisfies}
 use Rattle.isp_mbr.specs.declared.predicate.Predicate.{Predicate}
-use Rattle.isp_rnode.specs.declared.entry.Entry.{Entry}
-use Rattle.isp_rnode.specs.declared.entry.To.TheVariants.{Row}
-use Rattle.isp_rnode.specs.Lists.{Has}
-use Rattle.isp_rnode.specs.Tree.{Page, Tree, page_at, numbers}
-use Rattle.isp_rnode.specs.Forest.{Forest}
-use Rattle.isp_rnode.specs.Walk.{EndsAfter, LinkedForest}
-use Rattle.isp_machine.specs.Steps.{is_among, add, raise, split, remove}
-use Rattle.isp_machine.specs.Place.{Stands, IsFree, CanSplit, CanRelieve, Division, place}
-use Rattle.isp_machine.specs.Search.{Search, Item, IsOwn, Covered, Known}
-use Rattle.isp_machine.specs.Attach.{let_in, copied_at_raise, copied_at_split, copied_up, copied_to_raised, copied_to_parts, attached, is_tested}
-use Rattle.isp_machine.specs.Visit.{begun, visit}
+use Rattle.isp_forest.specs.declared.entry.Entry.{Entry}
+use Rattle.isp_forest.specs.declared.entry.To.TheVariants.{Row}
+use Rattle.isp_base.specs.Lists.{Has}
+use Rattle.isp_forest.specs.Tree.{Node, Tree, page_at, numbers}
+use Rattle.isp_forest.specs.Forest.{Forest}
+use Rattle.isp_forest.specs.Walk.{EndsAfter, LinkedForest}
+use Rattle.isp_forest.specs.Steps.{is_among, add, raise, split, remove}
+use Rattle.isp_forest.specs.Place.{Stands, IsFree, CanSplit, CanRelieve, Division, place}
+use Rattle.isp_forest.specs.Search.{Search, Item, IsOwn, Covered, Known}
+use Rattle.isp_forest.specs.Attach.{let_in, copied_at_raise, copied_at_split, copied_up, copied_to_raised, copied_to_parts, attached, is_tested}
+use Rattle.isp_forest.specs.Visit.{begun, visit}
 
 -- ---- nothing gets out of reach
 
@@ -133,7 +133,7 @@ OrderLeavesKnown = (tree : Tree) (x y : Search) (items : List Item) → IsLike x
 -- the entry lies on a leaf of the tree, as the row's of that key and with that number
 pub record IsOnLeaf (tree : Tree) (e : Entry) (key : ℤ) (number : ℕ) : Type 0 where
   pub p : ℕ
-  pub leaf : Page
+  pub leaf : Node
   pub there : page_at tree p ≡ Some leaf
   pub level : leaf.level ≡ 0
   pub has : Has leaf.entries e

@@ -3,8 +3,8 @@ use Rattle.std.specs.Prelude.{◌≡◌, true, false, pos, [], ◌∷◌}
 use Rattle.isp_mbr.specs.Predicates.{satisfies}
 use Rattle.isp_mbr.specs.declared.predicate.Predicate.{Predicate}
 use Rattle.isp_mbr.specs.declared.predicate.Test.TheVariants.{Disjoint}
-use Rattle.isp_machine.specs.Attach.{is_tested, attached}
-use Rattle.isp_machine.specs.Visit.{begun}
+use Rattle.isp_forest.specs.Attach.{is_tested, attached}
+use Rattle.isp_forest.specs.Visit.{begun}
 use Rattle.isp_laws.specs.Examples.{box, four_points, five_points, first_division}
 use Rattle.isp_laws.specs.SearchExamples.{meets_box, at}
 use Rattle.isp_searches.specs.SearchLaws.{Visits}

@@ -7,14 +7,14 @@ use Rattle.isp_mbr.specs.Boxes.{covers}
 use Rattle.isp_mbr.specs.Predicates.{satisfies}
 use Rattle.isp_mbr.specs.declared.predicate.Predicate.{Predicate}
 use Rattle.isp_mbr.specs.declared.predicate.Test.TheVariants.{Within}
-use Rattle.isp_rnode.specs.declared.entry.Entry.{Entry}
-use Rattle.isp_rnode.specs.Lists.{Has}
-use Rattle.isp_rnode.specs.Tree.{Page, Tree, page_at, counter, child_of}
-use Rattle.isp_rnode.specs.Walk.{split_since, LinkedForest}
-use Rattle.isp_machine.specs.Steps.{is_among, entry_for, add, raise, split}
-use Rattle.isp_machine.specs.Search.{Search, Covered}
-use Rattle.isp_machine.specs.Attach.{lets_in_from, let_in, copied_at_split, is_tested}
-use Rattle.isp_machine.specs.Visit.{remembered, looked_at, visit}
+use Rattle.isp_forest.specs.declared.entry.Entry.{Entry}
+use Rattle.isp_base.specs.Lists.{Has}
+use Rattle.isp_forest.specs.Tree.{Node, Tree, page_at, counter, child_of}
+use Rattle.isp_forest.specs.Walk.{split_since, LinkedForest}
+use Rattle.isp_forest.specs.Steps.{is_among, entry_for, add, raise, split}
+use Rattle.isp_forest.specs.Search.{Search, Covered}
+use Rattle.isp_forest.specs.Attach.{lets_in_from, let_in, copied_at_split, is_tested}
+use Rattle.isp_forest.specs.Visit.{remembered, looked_at, visit}
 use Rattle.isp_laws.specs.Examples.{box, point, four_points, five_points, seven_points, division, numbers_exchanged}
 use Rattle.isp_laws.specs.SearchExamples.{meets_box, at}
 use Rattle.isp_searches.specs.SearchLaws.{IsOnLeaf}
@@ -22,20 +22,20 @@ use Rattle.isp_searches.specs.SearchLaws.{IsOnLeaf}
 -- ---- wrong visits, of the page that was taken off the stack with the number s
 
 -- the right link is ignored
-abbrev pub without_link : Tree → ℕ → Option Page → Search → Search
+abbrev pub without_link : Tree → ℕ → Option Node → Search → Search
 without_link tree p None x = x
 without_link tree p (Some page) x = cond (is_among x.on p) x (looked_at (counter tree) page p x)
 
-abbrev pub with_link : ℕ → Page → Search → Search
+abbrev pub with_link : ℕ → Node → Search → Search
 with_link s page x = record x { stack = x.stack ++ remembered s (split_since s (Some page)) }
 
 -- a page that the search is on is skipped together with its right link
-abbrev pub skipping : Tree → ℕ → ℕ → Option Page → Search → Search
+abbrev pub skipping : Tree → ℕ → ℕ → Option Node → Search → Search
 skipping tree p s None x = x
 skipping tree p s (Some page) x = cond (is_among x.on p) x (looked_at (counter tree) page p (with_link s page x))
 
 -- the right link is remembered with the present counter
-abbrev pub with_present_counter : Tree → ℕ → ℕ → Option Page → Search → Search
+abbrev pub with_present_counter : Tree → ℕ → ℕ → Option Node → Search → Search
 with_present_counter tree p s None x = x
 with_present_counter tree p s (Some page) x =
     let behind = record x { stack = x.stack ++ remembered (counter tree) (split_since s (Some page)) } in
@@ -46,7 +46,7 @@ abbrev pub to_visit_by_cover : Predicate → ℕ → List Entry → List (ℕ ×
 to_visit_by_cover predicate now [] = []
 to_visit_by_cover predicate now (e ∷ es) = cond (covers e.b predicate.q) (remembered now (child_of e)) [] ++ to_visit_by_cover predicate now es
 
-abbrev pub pruning_by_cover : Tree → ℕ → Option Page → Search → Search
+abbrev pub pruning_by_cover : Tree → ℕ → Option Node → Search → Search
 pruning_by_cover tree p None x = x
 pruning_by_cover tree p (Some page) x = record x { on = x.on ++ p ∷ []; stack = x.stack ++ to_visit_by_cover x.predicate (counter tree) page.entries }
 

@@ -11,8 +11,6 @@
 
 mod cycles;
 mod graph;
-#[cfg(test)]
-mod tests;
 mod victims;
 
 pub use graph::{Cycle, Waits};

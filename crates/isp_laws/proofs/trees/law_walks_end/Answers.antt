@@ -1,5 +1,5 @@
 use Rattle.std.proofs.Common.{ℕ}
-use Rattle.isp_rnode.specs.Walk.{EndsAfter}
+use Rattle.isp_forest.specs.Walk.{EndsAfter}
 use Rattle.isp_laws.proofs.WalkLaws.{walk_ends, Ending}
 use Rattle.isp_laws.proofs.trees.law_walks_end.Goals as goal
 

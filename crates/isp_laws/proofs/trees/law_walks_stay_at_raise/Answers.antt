@@ -1,4 +1,4 @@
-use Rattle.isp_machine.specs.Steps.{raise}
+use Rattle.isp_forest.specs.Steps.{raise}
 use Rattle.isp_laws.proofs.WalkLaws.{walk_same}
 use Rattle.isp_laws.proofs.RaiseLaws.{raise_onward}
 use Rattle.isp_laws.proofs.trees.law_walks_stay_at_raise.Goals as goal

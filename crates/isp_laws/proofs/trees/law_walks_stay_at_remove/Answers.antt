@@ -1,4 +1,4 @@
-use Rattle.isp_machine.specs.Steps.{without}
+use Rattle.isp_forest.specs.Steps.{without}
 use Rattle.isp_laws.proofs.WalkLaws.{walk_same}
 use Rattle.isp_laws.proofs.RoundLaws.{rounded, onward-rounded}
 use Rattle.isp_laws.proofs.RemoveLaws.{remove-still}

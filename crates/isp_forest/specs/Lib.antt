@@ -1,0 +1,9 @@
+pub mod Attach
+pub mod Choice
+pub mod Forest
+pub mod Place
+pub mod Search
+pub mod Steps
+pub mod Tree
+pub mod Visit
+pub mod Walk

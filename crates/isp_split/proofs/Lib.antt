@@ -1,0 +1,4 @@
+pub mod DivisionLaws
+pub mod GroupLaws
+pub mod NextLaws
+pub mod SeedLaws
