@@ -1,0 +1,11 @@
+pub mod Language
+pub mod Points
+pub mod Overtaken
+pub mod Percolating
+pub mod Deleting
+pub mod Deadlocked
+pub mod FurtherRuns
+pub mod Stale
+pub mod RightAnswers
+pub mod WrongMachines
+pub mod WrongRuns

@@ -1,0 +1,2 @@
+pub mod SerialAfter
+pub mod EventLaws

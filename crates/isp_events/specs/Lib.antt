@@ -1,0 +1,16 @@
+pub mod Stored
+pub mod Sessions
+pub mod State
+pub mod Views
+pub mod Ways
+pub mod Lines
+pub mod Next
+pub mod Deadlocks
+pub mod Asking
+pub mod Reading
+pub mod Placing
+pub mod Writing
+pub mod Ending
+pub mod Purging
+pub mod Events
+pub mod Runs
