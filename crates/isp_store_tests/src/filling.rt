@@ -1,122 +1,113 @@
 //! A log that is full.
 
-use crate::acts::{Act, Run};
-use crate::opening::{
-    Stop, after, disk_with, keeps_what_was_told, made, opened_as, stopped_as, writes_behind,
-};
-use crate::plain::pages_after;
+use crate::acts::{Task, Wanted};
+use crate::disks::{Check, Outcome, comes_again_to, comes_to, ran};
+use crate::plans::Plan;
+use crate::stopping::{Keeps, LARGE, Stops, all_keep};
 use isp_disk::MemWorld;
-use std::alloc::{AllocError, Global};
-use std::test::Fail;
-
-/// How many pages the file has.
-const PAGES: u32 = 200;
-
-/// All bytes of a page.
-fn whole(page: u32, byte: u8) -> Run {
-    Run {
-        page,
-        at: 0,
-        len: 4_096,
-        byte,
-    }
-}
-
-/// So many mini-transactions of three whole pages each, told each. Each makes a batch of 12,319 bytes.
-fn acts(alloc: Global, count: u8) -> Result<Vec<Act>, AllocError> {
-    let mut all = Vec::new(alloc);
-    for number in 0..count {
-        let page = 16 + u32::from(number % 60) * 3;
-        let runs = [
-            whole(page, number),
-            whole(page + 1, number),
-            whole(page + 2, number),
-        ];
-        all.push(Act::PutThree(runs))?;
-        all.push(Act::Tell)?;
-    }
-    Ok(all)
-}
-
-/// A file on which so many of them were done.
-fn filled(alloc: Global, count: u8) -> Result<MemWorld, Fail> {
-    let acts = acts(alloc, count)?;
-    after(alloc, made(alloc, PAGES, 20_000, 20_000_000)?, &acts)
-}
+use std::alloc::Global;
 
 /// The gate of a batch of the log, counted from 0.
-fn gate(world: &MemWorld, batch: u8) -> Option<u8> {
-    world
-        .image()
-        .get(266_240 + batch as usize * 12_319)
-        .copied()
+fn gate_of(world: &MemWorld, batch: u16) -> u8 {
+    let at = 266_240 + batch as usize * 12_319;
+    world.image().get(at).copied().unwrap_or(0)
 }
 
-#[test]
-fn a_full_log_is_emptied_by_the_next_change(rt: HostRuntime) -> Result<(), Fail> {
-    let alloc = rt.alloc();
-    // Behind 69 batches there is room for 196,994 bytes more, the largest body, and behind 70 there isn't.
-    for (count, batch, open) in [
-        (70, 0, 1),
-        (70, 1, 1),
-        (70, 69, 1),
-        (70, 70, 0),
-        (71, 0, 1),
-        (71, 1, 0),
-    ] {
-        let world = filled(alloc, count)?;
-        assert_eq!(rt; gate(&world, batch), Some(open), "{count} {batch}");
+/// That a batch of the log has this gate.
+struct Gate {
+    batch: u16,
+    byte: u8,
+}
+
+impl Check for Gate {
+    fn holds(&self, _alloc: Global, outcome: &Outcome) -> bool {
+        gate_of(&outcome.world, self.batch) == self.byte
     }
-    Ok(())
 }
 
-/// Within how many of every 23rd write of the last of 71 a stop keeps what was told, and how many there are.
-fn kept_within_the_last(alloc: Global) -> Result<(u64, u64), Fail> {
-    let first = filled(alloc, 70)?.calls();
-    let acts = acts(alloc, 71)?;
-    let world = filled(alloc, 71)?;
-    let mut good = 0u64;
-    let mut all = 0u64;
-    for call in &writes_behind(alloc, &world, first, 23)? {
-        let stop = Stop {
-            call: *call,
-            kept: 5_000,
-            fill: 1,
-        };
-        all = all.saturating_add(1);
-        if keeps_what_was_told(alloc, &world, stop, PAGES, &acts)? {
-            good = good.saturating_add(1);
+/// How many wide mini-transactions there were, a batch of the log, and its gate: behind 69 batches there is room for 196,994
+/// bytes more, the largest body, and behind 70 there isn't.
+static GATES: [(u32, Gate); 6] = [
+    (70, Gate { batch: 0, byte: 1 }),
+    (70, Gate { batch: 1, byte: 1 }),
+    (70, Gate { batch: 69, byte: 1 }),
+    (70, Gate { batch: 70, byte: 0 }),
+    (71, Gate { batch: 0, byte: 1 }),
+    (71, Gate { batch: 1, byte: 0 }),
+];
+
+fn gates_agree(alloc: Global) -> bool {
+    for (count, wanted) in &GATES {
+        if !comes_to(alloc, LARGE, Plan::Wide(*count), wanted) {
+            return false;
         }
     }
-    Ok((good, all))
+    true
 }
 
 #[test]
-fn a_stop_while_the_log_is_emptied_keeps_what_was_told(rt: HostRuntime) -> Result<(), Fail> {
-    let (good, all) = kept_within_the_last(rt.alloc())?;
-    // A batch of 64 pages with its 195 writes, and the four of the finish.
-    assert!(rt; all > 7, "{all}");
-    assert_eq!(rt; good, all);
-    Ok(())
+fn a_full_log_is_emptied_by_the_next_change(rt: HostRuntime) {
+    assert!(rt; gates_agree(rt.alloc()));
 }
 
-#[test]
-fn a_stop_within_a_start_is_a_stop_like_any_other(rt: HostRuntime) -> Result<(), Fail> {
-    let alloc = rt.alloc();
-    let wanted = pages_after(alloc, PAGES, &acts(alloc, 70)?, 70)?;
-    let left = disk_with(alloc, filled(alloc, 70)?.image())?;
-    let started = opened_as(alloc, left, &wanted)?.ok_or("other pages")?;
-    assert_eq!(rt; gate(&started, 0), Some(0));
-    let calls = writes_behind(alloc, &started, 0, 29)?;
-    assert!(rt; calls.len() > 20, "{} stops", calls.len());
-    for call in &calls {
-        let stop = Stop {
-            call: *call,
-            kept: call % 4_100,
-            fill: 1,
-        };
-        let opened = stopped_as(alloc, &started, stop, &wanted)?;
-        assert!(rt; opened.is_some(), "{stop:?}");
+/// Stops within every so many-th write behind a call, with the gates that are torn open.
+fn stops(behind: u64, step: u64, least: u64) -> Stops {
+    Stops {
+        behind,
+        step,
+        least,
+        fills: [1, 1, 1, 1],
     }
-    Ok(())
+}
+
+/// The pages after so many wide mini-transactions.
+fn wanted(done: u32, or_one_more: bool) -> Wanted {
+    Wanted {
+        pages: 200,
+        plan: Plan::Wide(71),
+        done,
+        or_one_more,
+    }
+}
+
+/// That a stop within every 23rd write of one mini-transaction more keeps what was told: a batch of 64 pages with its 195
+/// writes, and the four of the finish.
+struct NextOneKeeps;
+
+impl Check for NextOneKeeps {
+    fn holds(&self, alloc: Global, outcome: &Outcome) -> bool {
+        let next = Keeps {
+            stops: stops(outcome.world.calls(), 23, 8),
+            wanted: wanted(71, true),
+        };
+        comes_to(alloc, LARGE, Plan::Wide(71), &next)
+    }
+}
+
+#[test]
+fn a_stop_while_the_log_is_emptied_keeps_what_was_told(rt: HostRuntime) {
+    assert!(rt; comes_to(rt.alloc(), LARGE, Plan::Wide(70), &NextOneKeeps));
+}
+
+/// That a start on a full log emptied it, and a stop within every 29th of its writes loses nothing.
+struct StartKeeps;
+
+impl Check for StartKeeps {
+    fn holds(&self, alloc: Global, outcome: &Outcome) -> bool {
+        let stops = stops(outcome.behind, 29, 21);
+        outcome.done == Ok(true)
+            && gate_of(&outcome.world, 0) == 0
+            && all_keep(alloc, &outcome.world, stops, wanted(70, false))
+    }
+}
+
+fn starting_keeps(alloc: Global) -> bool {
+    let full = ran(alloc, LARGE, Plan::Wide(70));
+    let task = Task::Compare(wanted(70, false));
+    comes_again_to(alloc, full, &[], task, &StartKeeps)
+}
+
+#[test]
+fn a_stop_within_a_start_is_a_stop_like_any_other(rt: HostRuntime) {
+    assert!(rt; starting_keeps(rt.alloc()));
 }

@@ -1,100 +1,108 @@
-//! Stops within the write that makes a mini-transaction count, and a disk that fails before anything is made.
+//! Stops within the write that makes a mini-transaction count.
 
-use crate::acts::{Act, Run, numbers_on};
-use crate::opening::{MADE, Stop, after, disk, made, make, stopped_as, writes_behind};
-use crate::plain::pages_after;
-use isp_disk::{Failed, MemWorld};
-use isp_page::{Fault, StoreFault};
-use std::alloc::{AllocError, Global};
-use std::test::Fail;
+use crate::acts::{Task, Wanted};
+use crate::disks::{
+    Check, Disk, Outcome, Stop, comes_again_to, comes_to, left_by, opens_to, ran, writes_behind,
+};
+use crate::plans::{Act, Plan, Run};
+use isp_disk::MemWorld;
+use std::alloc::Global;
+
+/// A disk of 64 pages.
+pub(crate) static SMALL: Disk = Disk {
+    pages: 64,
+    failing: 0,
+    room: 200_000,
+};
 
 /// Page 20 at 64 to 1.
-const CHANGE: [Act; 1] = [Act::Put(Run {
+static CHANGE: [Act; 1] = [Act::Put(Run {
     page: 20,
     at: 64,
     len: 1,
     byte: 1,
 })];
 
-/// A file of 64 pages in which page 20 was changed.
-fn changed(alloc: Global) -> Result<MemWorld, Fail> {
-    after(alloc, made(alloc, 64, 64, 200_000)?, &CHANGE)
+/// The pages after that was done so many times.
+fn wanted(done: u32) -> Wanted {
+    Wanted {
+        pages: 64,
+        plan: Plan::Given(&CHANGE),
+        done,
+        or_one_more: false,
+    }
 }
 
-/// The number of the last call that is a write, or 0 where none is.
-fn last_write(alloc: Global, world: &MemWorld) -> Result<u64, AllocError> {
-    let writes = writes_behind(alloc, world, 0, 1)?;
-    Ok(writes.last().copied().unwrap_or(0))
+/// A stop within the last call that is a write: the one behind it is its sync.
+fn within_last_write(world: &MemWorld, kept: u64, fill: u8) -> Stop {
+    Stop {
+        call: world.calls().saturating_sub(1),
+        kept,
+        fill,
+    }
 }
 
-/// Whether a stop leaves a file in which that change was done so many times.
-fn has_changes(alloc: Global, world: &MemWorld, stop: Stop, count: usize) -> Result<bool, Fail> {
-    let wanted = pages_after(alloc, 64, &CHANGE, count)?;
-    Ok(stopped_as(alloc, world, stop, &wanted)?.is_some())
+/// Of the one byte that is pending whether it is kept, what it reads else, and how many mini-transactions there are.
+static LAST_GATE: [(u64, u8, u32); 5] = [(1, 0, 1), (1, 9, 1), (0, 1, 1), (0, 0, 0), (0, 9, 0)];
+
+/// That a stop within the last write leaves as many mini-transactions as it is to.
+struct GateDecides;
+
+impl Check for GateDecides {
+    fn holds(&self, alloc: Global, outcome: &Outcome) -> bool {
+        for (kept, fill, count) in &LAST_GATE {
+            let stop = within_last_write(&outcome.world, *kept, *fill);
+            if !opens_to(alloc, &outcome.world, stop, wanted(*count)) {
+                return false;
+            }
+        }
+        true
+    }
 }
 
 #[test]
-fn a_mini_transaction_counts_where_its_gate_is_1(rt: HostRuntime) -> Result<(), Fail> {
-    let alloc = rt.alloc();
-    let world = changed(alloc)?;
-    let call = last_write(alloc, &world)?;
-    // The one byte that is pending is kept, or reads so; how many mini-transactions there are.
-    for (kept, fill, count) in [(1, 0, 1), (1, 9, 1), (0, 1, 1), (0, 0, 0), (0, 9, 0)] {
-        let stop = Stop { call, kept, fill };
-        assert!(rt; has_changes(alloc, &world, stop, count)?, "{stop:?}");
-    }
-    Ok(())
+fn a_mini_transaction_counts_where_its_gate_is_1(rt: HostRuntime) {
+    assert!(rt; comes_to(rt.alloc(), SMALL, Plan::Given(&CHANGE), &GateDecides));
 }
 
-/// The disk after a start on what a stop leaves whose torn gate reads 9.
-fn opened_on_a_torn_gate(alloc: Global) -> Result<MemWorld, Fail> {
-    let world = changed(alloc)?;
-    let stop = Stop {
-        call: last_write(alloc, &world)?,
-        kept: 0,
-        fill: 9,
-    };
-    let empty = pages_after(alloc, 64, &[], 0)?;
-    Ok(stopped_as(alloc, &world, stop, &empty)?.ok_or("a change that was never acknowledged")?)
+/// That a start found the change not there and made no write, and a stop within any of its calls leaves the change away.
+struct StaysAway;
+
+impl Check for StaysAway {
+    fn holds(&self, alloc: Global, outcome: &Outcome) -> bool {
+        for before in 0..outcome.world.calls() {
+            let stop = Stop {
+                call: before.saturating_add(1),
+                kept: 0,
+                fill: 1,
+            };
+            if !opens_to(alloc, &outcome.world, stop, wanted(0)) {
+                return false;
+            }
+        }
+        outcome.done == Ok(true) && writes_behind(&outcome.world, outcome.behind) == 0
+    }
+}
+
+/// What a stop leaves of a change whose torn gate reads 9.
+fn torn(alloc: Global) -> Option<Outcome> {
+    let outcome = ran(alloc, SMALL, Plan::Given(&CHANGE))?;
+    let stop = within_last_write(&outcome.world, 0, 9);
+    let world = left_by(alloc, &outcome.world, stop)?;
+    Some(Outcome {
+        done: outcome.done,
+        behind: 0,
+        world,
+    })
+}
+
+/// Whether no stop within a start on it can open the gate over the whole body that stands behind it.
+fn torn_gate_stays_shut(alloc: Global) -> bool {
+    let left = torn(alloc);
+    comes_again_to(alloc, left, &[], Task::Compare(wanted(0)), &StaysAway)
 }
 
 #[test]
-fn what_was_never_acknowledged_stays_away(rt: HostRuntime) -> Result<(), Fail> {
-    let alloc = rt.alloc();
-    let opened = opened_on_a_torn_gate(alloc)?;
-    // The start made no write, so no stop within it can open the gate over the whole body that stands behind it.
-    assert_eq!(rt; last_write(alloc, &opened)?, 0);
-    for call in 1..=opened.calls() {
-        let stop = Stop {
-            call,
-            kept: 0,
-            fill: 1,
-        };
-        assert!(rt; has_changes(alloc, &opened, stop, 0)?, "{stop:?}");
-    }
-    Ok(())
-}
-
-/// What making a file on a disk comes to whose call of this number fails, and the disk.
-fn made_failing(alloc: Global, failing: u64) -> Result<(Result<(), Failed>, MemWorld), Fail> {
-    let mut world = disk(alloc, 64, &[failing], 64, 200_000)?;
-    let made = make(&mut world);
-    Ok((made, world))
-}
-
-#[test]
-fn a_file_is_made_or_not_there(rt: HostRuntime) -> Result<(), Fail> {
-    let alloc = rt.alloc();
-    for failing in 1..=MADE {
-        let (made, world) = made_failing(alloc, failing)?;
-        assert_eq!(rt; made, Err(Failed), "at {failing}");
-        assert_eq!(rt; world.calls(), failing);
-    }
-    let (made, world) = made_failing(alloc, MADE + 1)?;
-    assert_eq!(rt; made, Ok(()));
-    let (numbers, world) = numbers_on(alloc, world);
-    assert_eq!(rt; numbers, Err(Fault::Store(StoreFault::Disk)));
-    let (numbers, _world) = numbers_on(alloc, world);
-    assert_eq!(rt; numbers, Ok((64, 4)));
-    Ok(())
+fn what_was_never_acknowledged_stays_away(rt: HostRuntime) {
+    assert!(rt; torn_gate_stays_shut(rt.alloc()));
 }

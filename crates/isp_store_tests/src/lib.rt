@@ -1,9 +1,13 @@
 //! Tests of a store of pages through its public calls: what the store's clauses say is seen on a disk in memory and on a
 //! real file. They stand in a crate of their own, since a crate with tests is proved with them and without.
 //!
-//! - `acts`: calls of a store as data, and rows of them.
-//! - `plain`: the same pages as a plain list of bytes.
-//! - `opening`: what a stop leaves, opened.
+//! A test is one assertion over a helper that answers a `bool`, a helper has at most two values that are dropped, and rows of
+//! acts are plans that take no memory: so each function is proved in a second or two.
+//!
+//! - `plans`: calls of a store as data, and rows of them.
+//! - `plain`: the pages that a plan comes to, as plain bytes.
+//! - `acts`: plans done on a store, and its pages compared.
+//! - `disks`: disks in memory, with a file on them; what a stop leaves of them, opened.
 //! - The others are tests, named for what they try.
 #![tactic(auto)]
 
@@ -11,6 +15,8 @@
 mod acts;
 #[cfg(test)]
 mod counting;
+#[cfg(test)]
+mod disks;
 #[cfg(test)]
 mod failing;
 #[cfg(test)]
@@ -20,10 +26,10 @@ mod filling;
 #[cfg(test)]
 mod gates;
 #[cfg(test)]
-mod opening;
-#[cfg(test)]
 mod plain;
 #[cfg(test)]
-mod refusing;
+mod plans;
+#[cfg(test)]
+mod rules;
 #[cfg(test)]
 mod stopping;

@@ -1,65 +1,63 @@
-//! The pages of a file as a plain list of bytes.
+//! The pages that a plan comes to, as plain bytes.
 
-use crate::acts::{Act, Run};
-use isp_page::PAGE_BYTES;
-use std::alloc::{AllocError, Global};
+use crate::plans::{Act, Plan, Run};
+use isp_page::{PAGE_BYTES, Page};
 
-/// Bytes of one value, from a place on.
-fn fill(pages: &mut [u8], at: usize, len: usize, byte: u8) {
-    if let Some(rest) = pages.get_mut(at..) {
-        if let Some(run) = rest.get_mut(..len) {
-            run.fill(byte);
-        }
+/// Changes the part of a run that lies in this page.
+fn put_run(page: &mut Page, number: u32, run: Run) {
+    if run.page != number {
+        return;
+    }
+    let at = run.at as usize;
+    if let Some(piece) = page.bytes.get_mut(at..at + run.len as usize) {
+        piece.fill(run.byte);
     }
 }
 
-/// Changes one run.
-fn put(pages: &mut [u8], run: Run) {
-    let at = run.page as usize * PAGE_BYTES + run.at as usize;
-    fill(pages, at, run.len as usize, run.byte);
+/// Changes what an act puts into this page, and answers whether it is a mini-transaction that changes some page.
+fn put(page: &mut Page, number: u32, act: Act) -> bool {
+    match act {
+        Act::Put(run) => {
+            put_run(page, number, run);
+            true
+        }
+        Act::PutThree(first, second, third) => {
+            put_run(page, number, first);
+            put_run(page, number, second);
+            put_run(page, number, third);
+            true
+        }
+        _ => false,
+    }
 }
 
-/// The pages of an empty file: the first sixteen have their kind and their own number, and page 0 the number 16.
-fn empty(alloc: Global, count: u32) -> Result<Vec<u8>, AllocError> {
-    let mut pages = Vec::new(alloc);
-    pages.resize(count as usize * PAGE_BYTES, 0)?;
-    for number in 0..16u8 {
-        let kind = match number {
+/// A page of an empty file: the first sixteen have their kind and their own number, and page 0 the number 16.
+fn empty(number: u32) -> Page {
+    let mut page = Page {
+        bytes: [0; PAGE_BYTES],
+    };
+    if number < 16 {
+        page.bytes[0] = match number {
             0 => 1,
             1 => 2,
             _ => 3,
         };
-        let at = number as usize * PAGE_BYTES;
-        fill(&mut pages, at, 1, kind);
-        fill(&mut pages, at + 27, 1, number);
+        page.bytes[27] = number as u8;
     }
-    fill(&mut pages, 75, 1, 16);
-    Ok(pages)
+    if number == 0 {
+        page.bytes[75] = 16;
+    }
+    page
 }
 
-/// The pages of a file of so many that was empty, after the first so many mini-transactions of these acts.
-pub(crate) fn pages_after(
-    alloc: Global,
-    count: u32,
-    acts: &[Act],
-    done: usize,
-) -> Result<Vec<u8>, AllocError> {
-    let mut pages = empty(alloc, count)?;
+/// A page of a file that was empty, after the first so many mini-transactions of a plan.
+pub(crate) fn page_after(number: u32, plan: Plan, done: u32) -> Page {
+    let mut page = empty(number);
     let mut left = done;
-    for act in acts {
-        if left == 0 {
-            return Ok(pages);
+    for at in 0..plan.count() {
+        if left > 0 && put(&mut page, number, plan.act(at)) {
+            left -= 1;
         }
-        match *act {
-            Act::Put(run) => put(&mut pages, run),
-            Act::PutThree(runs) => {
-                for run in runs {
-                    put(&mut pages, run);
-                }
-            }
-            _ => continue,
-        }
-        left -= 1;
     }
-    Ok(pages)
+    page
 }

@@ -1,72 +1,94 @@
-//! A long run of mini-transactions, stopped again and again.
+//! Long runs, stopped again and again.
+ghost use Rattle.std.specs.Prelude.{◌≡◌, ◌<◌};
 
-use crate::acts::{Act, Run};
-use crate::opening::{MADE, Stop, after, keeps_what_was_told, made, writes_behind};
-use rand::rngs::SmallRng;
-use rand::{RngExt, SeedableRng};
-use std::alloc::{AllocError, Global};
-use std::test::Fail;
+use crate::acts::Wanted;
+use crate::disks::{Check, Disk, MADE, Outcome, Stop, comes_to, keeps_told, opens_to};
+use crate::plans::Plan;
+use isp_disk::MemWorld;
+use std::alloc::Global;
 
-/// How many pages the file has.
-const PAGES: u32 = 200;
-
-/// Some bytes of some page.
-fn some_run(rng: &mut SmallRng) -> Run {
-    Run {
-        page: rng.random_range(0..PAGES),
-        at: rng.random_range(0u16..4_000),
-        len: rng.random_range(1u16..90),
-        byte: rng.random_range(0u8..255),
-    }
-}
-
-/// So many mini-transactions that change three runs each, told each, with other calls between them.
-fn some_acts(alloc: Global, seed: u64, count: usize) -> Result<Vec<Act>, AllocError> {
-    let mut rng = SmallRng::seed_from_u64(seed);
-    let mut acts = Vec::new(alloc);
-    for _ in 0..count {
-        let runs = [some_run(&mut rng), some_run(&mut rng), some_run(&mut rng)];
-        acts.push(Act::PutThree(runs))?;
-        acts.push(Act::Flush)?;
-        acts.push(Act::Tell)?;
-        match rng.random_range(0u8..30) {
-            0 => acts.push(Act::Checkpoint)?,
-            1..6 => acts.push(Act::CleanSome)?,
-            6..12 => acts.push(Act::Read(rng.random_range(0..PAGES)))?,
-            _ => {}
-        }
-    }
-    Ok(acts)
+/// Stops within every so many-th write behind a call, of which there have to be at least so many, and what the bytes hold
+/// then that are neither durable nor kept.
+#[derive(Clone, Copy)]
+pub(crate) struct Stops {
+    pub behind: u64,
+    pub step: u64,
+    pub least: u64,
+    pub fills: [u8; 4],
 }
 
 /// A stop within a call that keeps none of the bytes that aren't durable, a few, or those of a page and more.
-fn some_stop(rng: &mut SmallRng, call: u64) -> Stop {
-    let kept = match rng.random_range(0u8..3) {
+fn stop_at(call: u64, fills: [u8; 4]) -> Stop {
+    let kept = match call % 3 {
         0 => 0,
-        1 => rng.random_range(0u64..40),
-        _ => rng.random_range(0u64..6_000),
+        1 => call % 40,
+        _ => call % 6_000,
     };
-    Stop {
-        call,
-        kept,
-        fill: rng.random_range(0u8..4),
+    let fill = fills[call as usize % 4];
+    Stop { call, kept, fill }
+}
+
+fn keeps_stop(alloc: Global, world: &MemWorld, stop: Stop, wanted: Wanted) -> bool {
+    if wanted.or_one_more {
+        keeps_told(alloc, world, stop, wanted)
+    } else {
+        opens_to(alloc, world, stop, wanted)
     }
 }
 
-#[test]
-fn a_stop_leaves_what_was_told(rt: HostRuntime) -> Result<(), Fail> {
-    let alloc = rt.alloc();
-    let acts = some_acts(alloc, 7, 200)?;
-    let world = after(alloc, made(alloc, PAGES, 20_000, 20_000_000)?, &acts)?;
-    let calls = writes_behind(alloc, &world, MADE, 19)?;
-    assert!(rt; calls.len() > 100, "{} stops", calls.len());
-    let mut rng = SmallRng::seed_from_u64(8);
-    for call in &calls {
-        let stop = some_stop(&mut rng, *call);
-        assert!(rt;
-            keeps_what_was_told(alloc, &world, stop, PAGES, &acts)?,
-            "{stop:?}"
-        );
+/// Whether each of these stops leaves these pages; or, where one more mini-transaction may be there, those that were told.
+pub(crate) fn all_keep(alloc: Global, world: &MemWorld, stops: Stops, wanted: Wanted) -> bool {
+    let step = stops.step.max(1);
+    let mut writes = 0u64;
+    for before in stops.behind..world.calls() {
+        let call = before.saturating_add(1);
+        if world.is_write(call) {
+            writes = writes.saturating_add(1);
+            if writes % step == 0 && !keeps_stop(alloc, world, stop_at(call, stops.fills), wanted) {
+                return false;
+            }
+        }
     }
-    Ok(())
+    writes / step >= stops.least
+}
+
+/// That the run came about, and each of these stops leaves these pages.
+#[derive(Clone, Copy)]
+pub(crate) struct Keeps {
+    pub stops: Stops,
+    pub wanted: Wanted,
+}
+
+impl Check for Keeps {
+    fn holds(&self, alloc: Global, outcome: &Outcome) -> bool {
+        outcome.done == Ok(true) && all_keep(alloc, &outcome.world, self.stops, self.wanted)
+    }
+}
+
+/// 200 mini-transactions over 200 pages, stopped within every 19th write.
+static LONG: Keeps = Keeps {
+    stops: Stops {
+        behind: MADE,
+        step: 19,
+        least: 100,
+        fills: [0, 1, 2, 3],
+    },
+    wanted: Wanted {
+        pages: 200,
+        plan: Plan::Mixed(200),
+        done: 200,
+        or_one_more: true,
+    },
+};
+
+/// A disk of 200 pages.
+pub(crate) static LARGE: Disk = Disk {
+    pages: 200,
+    failing: 0,
+    room: 20_000_000,
+};
+
+#[test]
+fn a_stop_leaves_what_was_told(rt: HostRuntime) {
+    assert!(rt; comes_to(rt.alloc(), LARGE, Plan::Mixed(200), &LONG));
 }
