@@ -1,5 +1,5 @@
 -- A leaf whose rows are exchanged at one place.
-use Rattle.std.proofs.Common.{◌≡◌, ℕ, ◌+◌, ◌-◌, ◌<◌, ◌≤◌, ℤ, List, [], ◌∷◌, ◌++◌, length, Option, Some, None, refl, sym, ◌∙◌, ap, subst, arith}
+use Rattle.std.proofs.Common.{◌≡◌, ℕ, ◌+◌, ◌-◌, ◌<◌, ◌≤◌, ℤ, Bool, List, [], ◌∷◌, ◌++◌, drop, length, Option, Some, None, refl, sym, ◌∙◌, ap, subst, arith}
 use Rattle.std.specs.Prelude.{All, slice_index}
 use Rattle.std.specs.List.{flat_map}
 use Rattle.std.specs.Option.{option_map}
@@ -9,13 +9,15 @@ use Rattle.isp_format.specs.Header.{Header, header_bytes, header_of}
 use Rattle.isp_format.specs.Leaf.{IsLeafPage, IsStored, Stored, key_bytes, mark_byte, slot_of, stored_bytes}
 use Rattle.isp_format.specs.Numbers.{bytes_of}
 use Rattle.isp_format.proofs.Headers.{put_more, slice_byte}
+use Rattle.isp_format.proofs.Parts.{slice_parts}
 use Rattle.isp_format.proofs.Places.{inside}
 use Rattle.isp_format.proofs.Slices.{length-slice, put_above, put_below, put_inside, slice_agree, slice_put}
 use Rattle.isp_clustered.specs.Cells.{Stand, cell_of, end_of, place_in}
-use Rattle.isp_clustered.specs.Rows.{behind, below, bytes_in, exchanged, find, one_or_none}
+use Rattle.isp_clustered.specs.Rows.{behind, below, bytes_in, exchanged, find, from, one_or_none, rewritten}
+use Rattle.isp_clustered.specs.declared.cells.Cell.{Cell}
 use Rattle.isp_clustered.specs.declared.cells.Place.{Place}
-use Rattle.isp_clustered.proofs.CellLaws.{place_is, rows_length, stand_cut, stand_join, stand_moved, stored_length}
-use Rattle.isp_clustered.proofs.RowLaws.{parted}
+use Rattle.isp_clustered.proofs.CellLaws.{first_stands, found_front, place_is, rows_length, stand_cut, stand_from, stand_join, stand_moved, stored_length}
+use Rattle.isp_clustered.proofs.RowLaws.{found_key, parted}
 use Rattle.isp_clustered.proofs.TreeLaws.{leaf_stands}
 
 header_long : (h : Header) → length (header_bytes h) ≡ 32
@@ -188,3 +190,59 @@ pub dropped_leaf : (bytes new : List ℕ) (table own next : ℕ) (rows : List St
     → IsLeafPage new table own next (exchanged key None rows)
 dropped_leaf bytes new table own next rows key used place end piece parted end_is piece_is splice =
     splice table own next (below key rows) (one_or_none (find key rows)) (behind key rows) [] parted.leaf parted.at (end_is ∙ parted.end) (parted.rest ∙ ap (λ (n : ℕ). n + bytes_in (behind key rows)) (sym end_is)) piece_is no_each
+
+-- ---- a row that is written into its slot
+
+drop_front : (xs ys : List ℕ) → drop (length xs) (xs ++ ys) ≡ ys
+drop_front [] ys = refl
+drop_front (x ∷ xs) ys = drop_front xs ys
+
+-- the bytes of a slot from one of them on
+rest_is : (image : Image) (at to size left : ℕ) (s : Stored) (rows : List Stored) → Stand image at to (s ∷ rows) → size + left ≡ slot_of s → slice image (at + 13 + size) left ≡ drop size (s.row ++ s.rest)
+rest_is image at to size left s rows st whole =
+    let f = first_stands image at to s rows st in
+    let slot : slice image (at + 13) (size + left) ≡ s.row ++ s.rest = ap (slice image (at + 13)) whole ∙ slice_parts image (at + 13) (length s.row) (length s.rest) ∙ (λ i. f.row i ++ f.rest i) in
+    let front : List ℕ = slice image (at + 13) size in
+    let long : length front ≡ size = length-slice image (at + 13) size in
+    let parts : front ++ slice image (at + 13 + size) left ≡ s.row ++ s.rest = sym (slice_parts image (at + 13) size left) ∙ slot in
+    sym (drop_front front (slice image (at + 13 + size) left)) ∙ (λ i. drop (long i) (parts i))
+
+some_cell : (a b : Cell) → Some a ≡ Some b → a ≡ b
+some_cell a b same = cc
+
+-- what stands at a place where a row of the key was found
+pub record IsThere (image : Image) (at to : ℕ) (key : ℤ) (cell : Cell) (s : Stored) : Type 0 where
+  pub more : List Stored
+  pub stand : Stand image at to (s ∷ more)
+  pub key_is : s.key ≡ key
+  pub cell_is : cell ≡ cell_of s
+
+pub there : (image : Image) (to : ℕ) (key : ℤ) (rows : List Stored) (place : Place) (cell : Cell) (s : Stored) → Stand image 64 to rows → place ≡ place_in key 64 rows → place.here ≡ Some cell → find key rows ≡ Some s → IsThere image place.at to key cell s
+there image to key rows place cell s st is here found =
+    let front = found_front key rows s found in
+    let same : Some cell ≡ Some (cell_of s) = sym here ∙ ap (λ (p : Place). p.here) is ∙ (place_is key 64 rows).1 ∙ ap (λ (o : Option Stored). option_map cell_of o) found in
+    record {
+      more = front.0;
+      stand = subst (Stand image place.at to) front.1 (stand_from image to key rows place st is).1;
+      key_is = found_key key rows s found;
+      cell_is = some_cell cell (cell_of s) same;
+    }
+
+-- the row that is written, with what is left of the slot behind it
+pub written_is : (image : Image) (at to : ℕ) (key : ℤ) (cell : Cell) (s : Stored) (row rest : List ℕ) (marked : Bool) (left : ℕ) → IsThere image at to key cell s → length row + left ≡ cell.slot → rest ≡ slice image (at + 13 + length row) left
+    → (record { key = key; marked = marked; row = row; rest = rest } ≡ rewritten row marked s) × IsStored (rewritten row marked s)
+written_is image at to key cell s row rest marked left t whole rest_are =
+    let slot = ap (λ (x : Cell). x.slot) t.cell_is in
+    let f = first_stands image at to s t.more t.stand in
+    let behind : rest ≡ drop (length row) (s.row ++ s.rest) = rest_are ∙ rest_is image at to (length row) left s t.more t.stand (whole ∙ slot) in
+    let key_is = t.key_is in
+    let long : length rest ≡ left = ap (λ (l : List ℕ). length l) rest_are ∙ length-slice image (at + 13 + length row) left in
+    let size : length (drop (length row) (s.row ++ s.rest)) ≡ left = ap (λ (l : List ℕ). length l) (sym behind) ∙ long in
+    let few = f.few in
+    ((λ i. record { key = sym key_is i; marked = marked; row = row; rest = behind i }), record { key = f.fits; slot = omega (arith, size, whole, slot, few) })
+
+pub cell_there : (key : ℤ) (rows : List Stored) (place : Place) (s : Stored) → place ≡ place_in key 64 rows → find key rows ≡ Some s → place.here ≡ Some (cell_of s)
+cell_there key rows place s is found = ap (λ (p : Place). p.here) is ∙ (place_is key 64 rows).1 ∙ ap (λ (o : Option Stored). option_map cell_of o) found
+
+pub same_cell : (here : Option Cell) (cell other : Cell) → here ≡ Some cell → here ≡ Some other → cell ≡ other
+same_cell here cell other one two = some_cell cell other (sym one ∙ two)

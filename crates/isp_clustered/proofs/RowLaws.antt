@@ -183,3 +183,17 @@ find_exchanged k key row (s ∷ rows) has rises = by (int_lt s.key key) refl (fi
         → find k ((if b then s ∷ below key rows else []) ++ (one_or_none row ++ without_first_at key (if b then from key rows else s ∷ rows))) ≡ (if int_eq k key then row else find k (s ∷ rows))
     by true less rest = passes less rest (int_lt s.key k) refl
     by false apart rest = here (int_eq s.key key) refl apart
+
+some_stored : (a b : Stored) → Some a ≡ Some b → a ≡ b
+some_stored a b same = cc
+
+pub found_key : (key : ℤ) (rows : List Stored) (s : Stored) → find key rows ≡ Some s → s.key ≡ key
+found_key key rows s is = by (from key rows) is
+  where
+    first : (x : Stored) (b : Bool) → int_eq x.key key ≡ b → (if b then Some x else None) ≡ Some s → s.key ≡ key
+    first x true at same = let is : x ≡ s = some_stored x s same in ap (λ (r : Stored). r.key) (sym is) ∙ is_key x.key key at
+    first x false at same = absurd (let bad : None ≡ Some s = same in cc)
+
+    by : (xs : List Stored) → first_at key xs ≡ Some s → s.key ≡ key
+    by [] at = absurd (let bad : None ≡ Some s = at in cc)
+    by (x ∷ xs) at = first x (int_eq x.key key) refl at

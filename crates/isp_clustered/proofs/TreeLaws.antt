@@ -1,7 +1,8 @@
 -- A tree of one leaf: it is the leaf of its page, it is one at most, and it stands on its own page.
-use Rattle.std.proofs.Common.{◌≡◌, ℕ, suc, ◌+◌, ◌<◌, ◌≤◌, ℤ, ◌||◌, Bool, false, List, [], ◌∷◌, length, Some, None, refl, sym, ◌∙◌, ap, subst, arith}
+use Rattle.std.proofs.Common.{◌≡◌, ℕ, suc, ◌+◌, ◌<◌, ◌≤◌, ℤ, ◌||◌, Bool, false, List, [], ◌∷◌, length, Option, Some, None, refl, sym, ◌∙◌, ap, subst, arith}
 use Rattle.std.specs.Prelude.{All}
 use Rattle.std.specs.List.{flat_map}
+use Rattle.std.specs.Option.{option_map}
 use Rattle.std.proofs.lemmas.List.{append-nil}
 use Rattle.isp_disk.specs.Moments.{image_of}
 use Rattle.isp_format.specs.Header.{Header, header_of}
@@ -15,9 +16,9 @@ use Rattle.isp_space.specs.Spaces.{IsSpace, Space, free_pages, next_free, next_o
 use Rattle.isp_space.proofs.TakingLaws.{page_0_stays, taken_space}
 use Rattle.isp_space.proofs.SpaceLaws.{chain_same}
 use Rattle.isp_clustered.specs.Cells.{Stand}
-use Rattle.isp_clustered.specs.Rows.{Rises, new_row, with_put, without}
+use Rattle.isp_clustered.specs.Rows.{Rises, find, new_row, rewritten, with_put, with_row, without}
 use Rattle.isp_clustered.specs.Trees.{IsBeside, IsPut, IsTree, Tree, leaf_header, on_leaves, one_leaf, pages_of, rows_of}
-use Rattle.isp_clustered.proofs.RowLaws.{exchanged_rises}
+use Rattle.isp_clustered.proofs.RowLaws.{HasKey, exchanged_rises, found_key}
 
 pub rows_are : (root : ℕ) (rows : List Stored) (tree : Tree) → tree ≡ one_leaf root rows → rows_of tree ≡ rows
 rows_are root rows tree is = ap (λ (t : Tree). rows_of t) is ∙ append-nil rows
@@ -119,3 +120,16 @@ made_space pages pages_now old mid new page s is some page_is shape first second
     let keeps : KeepsPages (λ q. is_page 0 q || is_page (next_free s) q) old new = subst (λ (k : ℕ). KeepsPages (λ q. is_page 0 q || is_page k q) old new) page_is (keeps_two page old mid new first second) in
     let now : IsSpacePage (page_of new 0) (space_page (taken s)) = subst (λ (bytes : List ℕ). IsSpacePage bytes (space_page (taken s))) (sym (page_0_stays page mid new from second)) says in
     subst (λ (n : ℕ). IsSpace n new (taken s)) (sym shape) (taken_space pages old new s is some keeps now)
+
+-- a row that is written has the key of the row that was there
+written_key : (key : ℤ) (row : List ℕ) (marked : Bool) (rows : List Stored) (o : Option Stored) → find key rows ≡ o → HasKey key (option_map (rewritten row marked) o)
+written_key key row marked rows None is = tt
+written_key key row marked rows (Some s) is = found_key key rows s is
+
+-- the tree once a row is written into its slot
+pub written_tree : (pages pages_now : ℕ) (old new : Contents) (table root : ℕ) (tree : Tree) (key : ℤ) (row : List ℕ) (marked : Bool) (s : Stored) → IsTree pages old table root tree → find key (rows_of tree) ≡ Some s → pages_now ≡ pages → IsLeafPage (page_of new root) table root 0 (with_row key row marked (rows_of tree)) → IsTree pages_now new table root (on_leaves (with_row key row marked) tree)
+written_tree pages pages_now old new table root tree key row marked s is found shape leaf =
+    let rows = rows_are root is.rows tree is.is in
+    let here : IsLeafPage (page_of new root) table root 0 (with_row key row marked is.rows) = subst (λ (l : List Stored). IsLeafPage (page_of new root) table root 0 (with_row key row marked l)) rows leaf in
+    let rises : Rises (with_row key row marked is.rows) = exchanged_rises key (option_map (rewritten row marked) (find key is.rows)) is.rows (written_key key row marked is.rows (find key is.rows) refl) is.rises in
+    subst (λ (t : Tree). IsTree pages_now new table root (on_leaves (with_row key row marked) t)) (sym is.is) (leaf_tree pages_now new table root (with_row key row marked is.rows) here rises is.from (subst (λ (n : ℕ). root < n) (sym shape) is.to))

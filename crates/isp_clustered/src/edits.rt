@@ -2,9 +2,9 @@
 ghost use Rattle.std.specs.Prelude.{◌≡◌, ◌+◌, ◌-◌, ◌≤◌, ◌++◌, ◌<◌, ℕ, ℤ, List, All, Some, IfSome, is_none, nat_le, length, true, false};
 ghost use Rattle.std.specs.List.{flat_map};
 ghost use Rattle.isp_disk.specs.Moments.{image_of, slice};
-ghost use Rattle.isp_format.specs.Leaf.{IsLeafPage, IsStored, Stored, mark_byte, stored_bytes};
-ghost use Rattle.isp_clustered.specs.Cells.{IsPlaceWithin, end_of, marked_in, place_in};
-ghost use Rattle.isp_clustered.specs.Rows.{bytes_in, find, is_fitting, with_put, without};
+ghost use Rattle.isp_format.specs.Leaf.{IsLeafPage, IsStored, Stored, mark_byte, slot_of, stored_bytes};
+ghost use Rattle.isp_clustered.specs.Cells.{IsPlaceWithin, IsWithin, end_of, marked_in, place_in};
+ghost use Rattle.isp_clustered.specs.Rows.{bytes_in, exchanged, find, is_fitting, rewritten, with_put, with_row, without};
 
 use crate::cells::{Cell, HEAD, Place, piece, place_of};
 use crate::reading::empty_page;
@@ -43,7 +43,7 @@ fn mark_byte(marked: bool) -> u8
 
 // A row as it stands on a leaf, in a slot of its length and that of the bytes behind it, at the front of a page.
 fn spelled(key: i64, marked: bool, row: &[u8], rest: &[u8]) -> Page
-    requires slot { length row.now + length rest.now ≤ 1000 }
+    requires slot { length row.now + length rest.now ≤ 4019 }
     ensures { slice (image_of result.bytes) 0 (13 + (length row.now + length rest.now))
         ≡ stored_bytes (record { key = key; marked = marked; row = row.now; rest = rest.now }) }
 {
@@ -169,6 +169,85 @@ pub(crate) fn drop_in(old: &Page, used: usize, key: i64) -> Option<Page>
                 None
             }
         }
+        None => None,
+    }
+}
+
+// The page once a row is written into the slot of the one that stands at a place.
+fn rewrite_at(
+    old: &Page,
+    used: usize,
+    key: i64,
+    at: usize,
+    cell: Cell,
+    row: &[u8],
+    marked: bool,
+) -> Page
+    requires within { IsWithin at used cell }
+    requires from { 64 ≤ at }
+    requires inside { used ≤ 4096 }
+    requires row { length row.now ≤ cell.slot }
+    ensures { (table own next : ℕ) (rows : List Stored) (s : Stored) → IsLeafPage old.now.bytes table own next rows
+        → used ≡ 64 + length (flat_map stored_bytes rows)
+        → record { at = at; here = Some cell } ≡ place_in key 64 rows → find key rows ≡ Some s
+        → IsLeafPage result.bytes table own next (exchanged key (Some (rewritten row.now marked s)) rows) }
+{
+    let slot = usize::from(cell.slot);
+    let rest = piece(old, at + HEAD + row.len(), slot - row.len());
+    let whole = spelled(key, marked, row, rest);
+    let put = piece(&whole, 0, HEAD + slot);
+    spliced(old, at, at + HEAD + slot, used, put, get_u16(old, 2))
+}
+
+// The same where the row stands at the place and its slot holds the new one.
+fn rewrite_place(
+    old: &Page,
+    used: usize,
+    key: i64,
+    place: Place,
+    row: &[u8],
+    marked: bool,
+) -> Option<Page>
+    requires within { IsPlaceWithin used place }
+    requires inside { used ≤ 4096 }
+    ensures page { (table own next : ℕ) (rows : List Stored) (s : Stored) → IsLeafPage old.now.bytes table own next rows
+        → used ≡ 64 + length (flat_map stored_bytes rows) → place ≡ place_in key 64 rows
+        → find key rows ≡ Some s
+        → IfSome result (λ new. IsLeafPage new.bytes table own next (with_row key row.now marked rows)) }
+    ensures some { (rows : List Stored) (s : Stored) → place ≡ place_in key 64 rows → find key rows ≡ Some s
+        → length row.now ≤ slot_of s → is_none result ≡ false }
+{
+    match place.here {
+        Some(cell) => {
+            if row.len() <= usize::from(cell.slot) {
+                Some(rewrite_at(old, used, key, place.at, cell, row, marked))
+            } else {
+                None
+            }
+        }
+        None => None,
+    }
+}
+
+/// The page of a leaf once a row is written into the slot of its key, where it is one and has that key and room in its slot.
+pub(crate) fn rewrite_in(
+    old: &Page,
+    used: usize,
+    key: i64,
+    row: &[u8],
+    marked: bool,
+) -> Option<Page>
+    requires from { 64 ≤ used }
+    requires inside { used ≤ 4096 }
+    ensures page { (table own next : ℕ) (rows : List Stored) (s : Stored) → IsLeafPage old.now.bytes table own next rows
+        → used ≡ 64 + length (flat_map stored_bytes rows) → find key rows ≡ Some s
+        → IfSome result (λ new. IsLeafPage new.bytes table own next (with_row key row.now marked rows)) }
+    ensures some { (table own next : ℕ) (rows : List Stored) (s : Stored) → IsLeafPage old.now.bytes table own next rows
+        → used ≡ 64 + length (flat_map stored_bytes rows) → find key rows ≡ Some s
+        → length row.now ≤ slot_of s → is_none result ≡ false }
+{
+    match place_of(old, used, key) {
+        Some(place) => rewrite_place(old, used, key, place, row, marked),
         None => None,
     }
 }

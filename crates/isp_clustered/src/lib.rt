@@ -16,4 +16,4 @@ mod writing;
 
 pub use kept::Kept;
 pub use reading::{fits, get};
-pub use writing::{create, drop_marked, put};
+pub use writing::{create, drop_marked, put, rewrite};

@@ -1,7 +1,7 @@
 //! The calls that change a tree.
 ghost use Rattle.std.specs.Prelude.{◌≡◌, ◌+◌, ◌^◌, ◌<◌, ◌≤◌, ◌||◌, [], ◌∷◌, ℕ, true, Some, length, IfErr, IfOk, OnOk};
 ghost use Rattle.isp_format.specs.Header.{header_of};
-ghost use Rattle.isp_format.specs.Leaf.{Stored};
+ghost use Rattle.isp_format.specs.Leaf.{Stored, slot_of};
 ghost use Rattle.isp_format.specs.Ranges.{page_of};
 ghost use Rattle.isp_page.specs.HeadValues.{header_in};
 ghost use Rattle.isp_page.specs.Calls.{Continues};
@@ -9,10 +9,10 @@ ghost use Rattle.isp_page.specs.State.{HasRoom, most_changed};
 ghost use Rattle.isp_page.specs.Steps.{IsNoDamage};
 ghost use Rattle.isp_page.specs.Touched.{Grows, KeepsPages, is_page};
 ghost use Rattle.isp_space.specs.Spaces.{IsSpace, Space, free_pages, next_free, taken};
-ghost use Rattle.isp_clustered.specs.Rows.{find, without};
+ghost use Rattle.isp_clustered.specs.Rows.{find, with_row, without};
 ghost use Rattle.isp_clustered.specs.Trees.{IsBeside, IsPut, IsTree, Tree, fits, leaf_header, on_leaves, one_leaf, rows_of};
 
-use crate::edits::{drop_in, put_in};
+use crate::edits::{drop_in, put_in, rewrite_in};
 use crate::reading::{LEAF, empty_page, read_leaf};
 use isp_page::{Head, Page, PageNo, Pages, StoreFault, replace, set_head};
 use isp_space::{add_bytes, take_page};
@@ -192,4 +192,47 @@ pub fn create<P: Pages>(pages: &mut P, table: u32) -> Result<PageNo, StoreFault>
     let p = take_page(pages)?;
     make_leaf(pages, p, table)?;
     Ok(p)
+}
+
+/// Writes a row into the slot of its key, which keeps its size, with this mark. The key is there and its slot holds the row.
+///
+/// # Errors
+///
+/// Disk; or Damaged, with the tree's page and rule 7, where that is no leaf of rows, has no row of that key, or has it in a
+/// smaller slot.
+pub fn rewrite<P: Pages>(
+    pages: &mut P,
+    root: PageNo,
+    key: i64,
+    row: &[u8],
+    marked: bool,
+) -> Result<(), StoreFault>
+    requires usable { P.usable pages.old ≡ true }
+    requires page { root.0 < (P.shape pages.old).pages }
+    requires begun { (P.mini pages.old).is_begun ≡ true }
+    requires room { HasRoom root.0 (P.mini pages.old) }
+    ensures kept { Continues P.Pages pages.old pages.new result }
+    ensures others { P.tells → OnOk result (KeepsPages (is_page root.0) (P.contents pages.old) (P.contents pages.new)) }
+    ensures grown { OnOk result (Grows (root.0 ∷ []) (P.mini pages.old) (P.mini pages.new)) }
+    ensures written { P.tells → (table : ℕ) (tree : Tree) (s : Stored)
+        → IsTree (P.shape pages.old).pages (P.contents pages.old) table root.0 tree
+        → find key (rows_of tree) ≡ Some s
+        → OnOk result (IsTree (P.shape pages.new).pages (P.contents pages.new) table root.0
+        (on_leaves (with_row key row.now marked) tree)) }
+    ensures sound { P.tells → (table : ℕ) (tree : Tree) (s : Stored)
+        → IsTree (P.shape pages.old).pages (P.contents pages.old) table root.0 tree
+        → find key (rows_of tree) ≡ Some s → length row.now ≤ slot_of s → IfErr result IsNoDamage }
+{
+    let mut page = empty_page();
+    let used = read_leaf(pages, root, &mut page)?;
+    match rewrite_in(&page, used, key, row, marked) {
+        Some(new) => {
+            replace(pages, root, &page, &new)?;
+            Ok(())
+        }
+        None => Err(StoreFault::Damaged {
+            page: root.0,
+            rule: 7,
+        }),
+    }
 }
