@@ -1,10 +1,10 @@
-pub mod Calls
+mod Calls
 mod Images
 mod Keeping
 mod Meets
 mod Momentary
-pub mod Moments
-pub mod Phases
+pub mod MomentLaws
+pub mod PhaseLaws
 mod Pieces
 mod Replay
 mod Stopping

@@ -1,12 +1,12 @@
 -- How a list of calls is kept: what each wrote or printed lies in one list of bytes.
 use Rattle.std.specs.Prelude.{◌≡◌, ℕ, ◌+◌, ◌≤◌, Bool, true, List, [], ◌∷◌, length, map, take, drop}
-use Rattle.isp_disk.specs.declared.call_log.Kind.{Kind}
-use Rattle.isp_disk.specs.declared.call_log.Kind.TheVariants.{Read, Write, Sync, Print}
+use Rattle.isp_disk.specs.declared.call_log.CallKind.{CallKind}
+use Rattle.isp_disk.specs.declared.call_log.CallKind.TheVariants.{Read, Write, Sync, Print}
 use Rattle.isp_disk.specs.declared.call_log.Call.{Call}
 use Rattle.isp_disk.specs.InMemory.{Event, read, wrote, synced, printed, held_after}
 use Rattle.isp_disk.specs.Moments.{image_of}
 
-abbrev pub event_with : Kind → Bool → List ℕ → Event
+abbrev pub event_with : CallKind → Bool → List ℕ → Event
 event_with Read ok bytes = read ok
 event_with (Write at) ok bytes = wrote at bytes ok
 event_with Sync ok bytes = synced ok

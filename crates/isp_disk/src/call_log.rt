@@ -9,7 +9,7 @@ use std::marker::Model;
 
 /// What a call asks for.
 #[derive(Clone, Copy, Debug, PartialEq, Eq)]
-pub(crate) enum Kind {
+pub(crate) enum CallKind {
     Read,
     Write { at: u64 },
     Sync,
@@ -19,7 +19,7 @@ pub(crate) enum Kind {
 /// A call, with the place of the bytes that it was given among those of all calls.
 #[derive(Clone, Copy, Debug, PartialEq, Eq)]
 pub(crate) struct Call {
-    pub kind: Kind,
+    pub kind: CallKind,
     pub is_ok: bool,
     pub from: usize,
     pub length: usize,
@@ -79,7 +79,7 @@ impl CallLog {
     }
 
     /// The call behind so many others: what it asked for, whether it came about, and its bytes.
-    pub fn call(&self, made: usize) -> (Kind, bool, &[u8])
+    pub fn call(&self, made: usize) -> (CallKind, bool, &[u8])
         requires { made < length self.now.calls }
         ensures { event_with result.0 result.1 result.2.now ≡ call_at self.now.calls made }
     {
@@ -96,7 +96,7 @@ impl CallLog {
     }
 
     /// Adds a call.
-    pub fn push(&mut self, kind: Kind, is_ok: bool, bytes: &[u8])
+    pub fn push(&mut self, kind: CallKind, is_ok: bool, bytes: &[u8])
         requires { is_spent self.old (length bytes.now) ≡ false }
         ensures { self.new ≡ with_call self.old (event_with kind is_ok bytes.now) (length bytes.now) }
     {
@@ -131,7 +131,7 @@ fn is_good_sync(call: &Call) -> bool
     ensures { result ≡ is_good_sync (event_with call.now.kind call.now.is_ok []) }
 {
     match call.kind {
-        Kind::Sync => call.is_ok,
-        Kind::Read | Kind::Write { .. } | Kind::Print => false,
+        CallKind::Sync => call.is_ok,
+        CallKind::Read | CallKind::Write { .. } | CallKind::Print => false,
     }
 }

@@ -7,7 +7,7 @@ ghost use Rattle.isp_disk.specs.Moments.{Quiet, Touches, image_of, in_range, no_
 ghost use Rattle.isp_disk.specs.Outside.{HasCause, Prints};
 ghost use Rattle.isp_disk.specs.Stops.{call_at, is_good_sync, is_write, printed_behind, stopped};
 
-use crate::call_log::{CallLog, Kind};
+use crate::call_log::{CallKind, CallLog};
 use crate::stops::{image_behind, last_writes, printed_behind, put_over, put_writes, written_by};
 use crate::world::count_fault;
 use crate::{Failed, World};
@@ -95,7 +95,7 @@ impl MemWorld {
         ensures { result ≡ is_write (call_at self.now.log.calls (call - 1)) }
     {
         let (kind, _, _) = self.log.call(call as usize - 1);
-        matches!(kind, Kind::Write { .. })
+        matches!(kind, CallKind::Write { .. })
     }
 
     /// The image of a stop within the call of this number. Of the bytes below the size of the disk that were written
@@ -210,7 +210,7 @@ impl MemWorld {
             return Err(Failed);
         }
         let fails = is_to_fail(&self.failing, self.log.next_number());
-        self.log.push(Kind::Read, !fails, &[]);
+        self.log.push(CallKind::Read, !fails, &[]);
         if fails {
             self.disk_faults = count_fault(self.disk_faults);
             return Err(Failed);
@@ -234,7 +234,7 @@ impl MemWorld {
             self.log.next_number(),
             ends_within(at, bytes.len(), self.image.len()),
         );
-        self.log.push(Kind::Write { at }, is_good, bytes);
+        self.log.push(CallKind::Write { at }, is_good, bytes);
         if !is_good {
             self.disk_faults = count_fault(self.disk_faults);
             return Err(Failed);
@@ -253,7 +253,7 @@ impl MemWorld {
             return Err(Failed);
         }
         let fails = is_to_fail(&self.failing, self.log.next_number());
-        self.log.push(Kind::Sync, !fails, &[]);
+        self.log.push(CallKind::Sync, !fails, &[]);
         if fails {
             self.disk_faults = count_fault(self.disk_faults);
             return Err(Failed);
@@ -272,7 +272,7 @@ impl MemWorld {
             return Err(Failed);
         }
         let fails = is_to_fail(&self.failing, self.log.next_number());
-        self.log.push(Kind::Print, !fails, bytes);
+        self.log.push(CallKind::Print, !fails, bytes);
         if fails {
             self.print_faults = count_fault(self.print_faults);
             return Err(Failed);

@@ -5,7 +5,7 @@ ghost use Rattle.isp_disk.specs.Kept.{AreInside, IsInside, event_with};
 ghost use Rattle.isp_disk.specs.Moments.{image_of, put};
 ghost use Rattle.isp_disk.specs.Stops.{AreBelow, bytes_behind, image_after, last_writes, placed, printed_after, put_writes, still_pending, torn_behind, writes_of, written_by};
 
-use crate::call_log::{CallLog, Kind};
+use crate::call_log::{CallKind, CallLog};
 use std::alloc::{AllocError, Global};
 
 /// Puts the bytes over those that stand there.
@@ -18,13 +18,13 @@ pub(crate) fn put_over(image: &mut Vec<u8>, at: usize, bytes: &[u8])
 }
 
 // Does a call again on the bytes of a disk.
-fn replay(image: &mut Vec<u8>, kind: Kind, is_ok: bool, bytes: &[u8])
+fn replay(image: &mut Vec<u8>, kind: CallKind, is_ok: bool, bytes: &[u8])
     requires { IsInside (length image.old.items) (event_with kind is_ok bytes.now) }
     ensures size { length image.new.items ≡ length image.old.items }
     ensures bytes { (place : ℕ) → image_of image.new.items place
         ≡ image_after (image_of image.old.items) (event_with kind is_ok bytes.now) place }
 {
-    if let Kind::Write { at } = kind {
+    if let CallKind::Write { at } = kind {
         if is_ok {
             put_over(image, at as usize, bytes);
         }
@@ -56,7 +56,7 @@ pub(crate) fn image_behind(
 // Adds what a print printed.
 fn print_again(
     printed: &mut Vec<u8>,
-    kind: Kind,
+    kind: CallKind,
     is_ok: bool,
     bytes: &[u8],
 ) -> Result<(), AllocError>
@@ -64,7 +64,7 @@ fn print_again(
         ≡ printed_after printed.old.items (event_with kind is_ok bytes.now)) }
 {
     match kind {
-        Kind::Print if is_ok => printed.extend_from_slice(bytes),
+        CallKind::Print if is_ok => printed.extend_from_slice(bytes),
         _ => Ok(()),
     }
 }
@@ -124,7 +124,7 @@ fn push_placed(
 // Keeps the pending writes behind one more call.
 fn follow(
     writes: &mut Vec<(usize, u8)>,
-    kind: Kind,
+    kind: CallKind,
     is_ok: bool,
     bytes: &[u8],
     size: usize,
@@ -133,8 +133,8 @@ fn follow(
         ≡ still_pending size writes.old.items (event_with kind is_ok bytes.now)) }
 {
     match kind {
-        Kind::Write { at } => push_placed(writes, at, bytes, size),
-        Kind::Sync if is_ok => {
+        CallKind::Write { at } => push_placed(writes, at, bytes, size),
+        CallKind::Sync if is_ok => {
             writes.clear();
             Ok(())
         }
@@ -145,7 +145,7 @@ fn follow(
 // Adds the writes of the call in which the stop comes.
 fn follow_last(
     writes: &mut Vec<(usize, u8)>,
-    kind: Kind,
+    kind: CallKind,
     bytes: &[u8],
     size: usize,
 ) -> Result<(), AllocError>
@@ -153,7 +153,7 @@ fn follow_last(
         ≡ writes.old.items ++ writes_of size (event_with kind is_ok bytes.now)) }
 {
     match kind {
-        Kind::Write { at } => push_placed(writes, at, bytes, size),
+        CallKind::Write { at } => push_placed(writes, at, bytes, size),
         _ => Ok(()),
     }
 }

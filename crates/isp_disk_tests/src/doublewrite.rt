@@ -3,7 +3,7 @@ ghost use Rattle.std.specs.Prelude.{◌<◌};
 
 use isp_disk::{Failed, MemWorld, World};
 use isp_doublewrite::{Restored, check_copies, restore, write_batch};
-use isp_page::{PAGE_BYTES, Page, PageNo};
+use isp_format::{PAGE_BYTES, Page, PageNo};
 use std::alloc::Global;
 use std::test::Fail;
 

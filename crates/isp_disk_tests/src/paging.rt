@@ -1,10 +1,10 @@
 //! Worked headers and fields, and pages in memory once through each call.
 ghost use Rattle.std.specs.Prelude.{◌≡◌, false, OnOk};
 
-use isp_page::{
-    Fault, Head, MemPages, PAGE_BYTES, Page, PageNo, Pages, StoreFault, get_i32, get_i64, get_u16,
-    get_u32, get_u64, head, replace, set_head,
+use isp_format::{
+    Head, PAGE_BYTES, Page, PageNo, get_i32, get_i64, get_u16, get_u32, get_u64, head, set_head,
 };
+use isp_page::{Fault, MemPages, Pages, StoreFault, replace};
 use std::alloc::{AllocError, Global};
 use std::test::Fail;
 
@@ -157,9 +157,9 @@ fn a_page_in_memory_is_exchanged(rt: HostRuntime) -> Result<(), Fail> {
 
 /// Room for eight bytes: of the four behind the first five none is told.
 fn tells(store: &mut MemPages) -> bool {
-    let first = store.tell(b"12345") == Ok(());
-    let refused = store.tell(b"6789") == Err(StoreFault::Print);
-    let rest = store.tell(b"678") == Ok(());
+    let first = store.print(b"12345") == Ok(());
+    let refused = store.print(b"6789") == Err(StoreFault::Print);
+    let rest = store.print(b"678") == Ok(());
     first && refused && rest && store.printed() == b"12345678".as_slice()
 }
 

@@ -1,7 +1,7 @@
 //! The log of a file, over a disk in memory.
 
 use isp_disk::{Failed, MemWorld, World};
-use isp_page::PAGE_BYTES;
+use isp_format::PAGE_BYTES;
 use isp_redo::{Log, read_range};
 use std::test::Fail;
 

@@ -1,11 +1,11 @@
 //! A stable file, on a disk in memory.
-ghost use Rattle.std.specs.Prelude.{◌≡◌, OnOk};
+ghost use Rattle.std.specs.Prelude.{◌≡◌, IfOk};
 ghost use Rattle.isp_disk.specs.Moments.{Quiet};
 ghost use Rattle.isp_stable.specs.File.{IsFile};
 
 use isp_disk::{Failed, MemWorld, World};
+use isp_format::{PAGE_BYTES, Page, PageNo};
 use isp_making::make;
-use isp_page::{PAGE_BYTES, Page, PageNo};
 use isp_redo::Log;
 use isp_stable::Stable;
 use std::test::Fail;
@@ -16,16 +16,17 @@ const SIZE: u64 = 1_445_888;
 /// A mini-transaction with a byte of page 20.
 const BODY: [u8; 11] = [0, 1, 0, 0, 0, 20, 0, 64, 0, 1, 8];
 
-/// Makes the file of 64 pages that this one is said to be.
-fn make_file<W: World>(stable: &mut Stable<W>) -> Result<(), Failed>
-    requires shape { (stable.old.pages ≡ 64) × (stable.old.fanout ≡ 4) }
-    requires end { stable.old.log.end ≡ 0 }
-    ensures quiet { OnOk result (Quiet (W.pending stable.new.world)) }
-    ensures file { W.tells → OnOk result (IsFile W.World stable.new) }
-    ensures pages { stable.new.pages ≡ 64 }
-    ensures end { stable.new.log.end ≡ 0 }
+/// A file of 64 pages made on a disk.
+fn made_on<W: World>(world: W) -> Result<Stable<W>, W>
+    ensures quiet { IfOk result (λ s. Quiet (W.pending s.world)) }
+    ensures file { W.tells → IfOk result (λ s. IsFile W.World s) }
+    ensures shape { IfOk result (λ s. (s.pages ≡ 64) × (s.log.end ≡ 0)) }
 {
-    make(&mut stable.world, 64, 4)
+    let mut world = world;
+    match make(&mut world, 64, 4) {
+        Ok(()) => Ok(Stable::new(world, Log { end: 0 }, 64, 4)),
+        Err(_) => Err(world),
+    }
 }
 
 /// The byte at place 64 of page 20.
@@ -53,12 +54,12 @@ fn first_range<W: World>(stable: &mut Stable<W>) -> Result<Option<(u32, u16, u8)
     }
 }
 
-/// Whether a file is made, page 20 is written and read, and a mini-transaction is logged and its log emptied.
+/// Whether page 20 is written and read, and a mini-transaction is logged and its log emptied.
 fn is_stable<W: World>(stable: &mut Stable<W>) -> Result<bool, Failed>
-    requires shape { (stable.old.pages ≡ 64) × (stable.old.fanout ≡ 4) }
-    requires end { stable.old.log.end ≡ 0 }
+    requires quiet { Quiet (W.pending stable.old.world) }
+    requires file { W.tells → IsFile W.World stable.old }
+    requires shape { (stable.old.pages ≡ 64) × (stable.old.log.end ≡ 0) }
 {
-    make_file(stable)?;
     let page = Page {
         bytes: [7; PAGE_BYTES],
     };
@@ -71,36 +72,23 @@ fn is_stable<W: World>(stable: &mut Stable<W>) -> Result<bool, Failed>
     Ok(byte == 7 && logged == Some((20, 64, 8)) && emptied.is_none())
 }
 
-/// A file of 64 pages with nothing written yet.
-fn file_on(world: MemWorld) -> Stable<MemWorld>
-    ensures shape { (result.pages ≡ 64) × (result.fanout ≡ 4) }
-    ensures end { result.log.end ≡ 0 }
-{
-    Stable {
-        world,
-        log: Log { end: 0 },
-        pages: 64,
-        fanout: 4,
+/// Whether a file on this disk does so.
+fn keeps_a_file(world: MemWorld) -> bool {
+    match made_on(world) {
+        Ok(file) => {
+            let mut stable = file;
+            let done = is_stable(&mut stable);
+            let _world = stable.into_world();
+            done == Ok(true)
+        }
+        Err(_world) => false,
     }
-}
-
-/// The world of a file that is done with.
-fn world_of(stable: Stable<MemWorld>) -> MemWorld {
-    let Stable {
-        world,
-        log: _log,
-        pages: _pages,
-        fanout: _fanout,
-    } = stable;
-    world
 }
 
 #[test]
 fn a_file_is_written_logged_and_emptied(rt: HostRuntime) -> Result<(), Fail> {
     let world = MemWorld::new(rt.alloc(), SIZE, &[], &[], 100, 200_000)?;
-    let mut stable = file_on(world);
-    let done = is_stable(&mut stable);
-    let _world = world_of(stable);
-    assert!(rt; done == Ok(true));
+    let kept = keeps_a_file(world);
+    assert!(rt; kept);
     Ok(())
 }

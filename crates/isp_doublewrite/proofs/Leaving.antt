@@ -2,10 +2,10 @@
 use Rattle.std.proofs.Common.{◌≡◌, ◌≢◌, ◌⊎◌, inl, inr, ⊎_elim, ℕ, zero, suc, ◌+◌, ◌*◌, ◌≤◌, false, List, [], ◌∷◌, map, min, refl, sym, ◌∙◌, ap, subst, arith}
 use Rattle.std.proofs.lemmas.Bool.{cases_eq}
 use Rattle.isp_disk.specs.Moments.{Image, Region, Agree, Within, either, in_range, no_place, put}
-use Rattle.isp_disk.proofs.Moments.{agree_on, agree_wider}
+use Rattle.isp_disk.proofs.MomentLaws.{agree_on, agree_wider}
 use Rattle.isp_doublewrite.specs.Batches.{AreWhole, BatchLeft, IsBatchDone, IsStaged}
 use Rattle.isp_doublewrite.specs.Places.{batch_places, gate_place, page_places, staged_places}
-use Rattle.isp_doublewrite.specs.Restores.{AreLaid, RestoreLeft, copied_pages}
+use Rattle.isp_doublewrite.specs.Restores.{AreLaid, RestoreLeft, copied_pages, restored_places}
 use Rattle.isp_format.specs.Control.{pages_in}
 use Rattle.isp_format.specs.Doublewrite.{HasCopies, IsCopyList, area, area_place, copies, copies_from, copies_place, copy_count, doublewrite_gate, laid, most_copies}
 use Rattle.isp_format.specs.Ranges.{Range, SameIn, cover, page_bytes, puts}
@@ -13,7 +13,8 @@ use Rattle.isp_format.proofs.Local.{copies_closed, copies_from_same, copies_open
 use Rattle.isp_format.proofs.Places.{above, neither, not_first, not_second}
 use Rattle.isp_format.proofs.Puts.{absorbs, puts_again}
 use Rattle.isp_format.proofs.Slices.{length-slice}
-use Rattle.isp_doublewrite.proofs.InPlace.{pages_above, pages_cover}
+use Rattle.isp_doublewrite.proofs.InPlace.{pages_cover}
+use Rattle.isp_doublewrite.proofs.PlaceLaws.{pages_above}
 
 -- the page area of images that agree there
 pub same_area : (region : Region) (one other : Image) → ((place : ℕ) → region (area_place + place) ≡ false) → Agree region one other → area other ≡ area one
@@ -48,8 +49,8 @@ open_rule pages count ranges image staged good gate =
     (subst (λ (all : List Range). IsCopyList pages count (map (λ copy. copy.page) all)) (sym is) good)
 
 -- an image with the list and the copies of a batch
-pub left_open : (count : ℕ) (ranges : List Range) (numbers : List ℕ) (before : Image) (told : List ℕ) (left : Image) (said : List ℕ) → IsCopyList (pages_in before) count (map (λ copy. copy.page) ranges) → IsStaged count ranges left → ((left doublewrite_gate ≢ 1) → (area left ≡ area before) ⊎ (area left ≡ puts ranges (area before))) → puts ranges (area left) ≡ puts ranges (area before) → Agree (batch_places numbers) before left → said ≡ told → BatchLeft ranges numbers before told left said
-left_open count ranges numbers before told left said good staged closed whole others same = record {
+pub left_open : (count : ℕ) (ranges : List Range) (numbers : List ℕ) (before : Image) (printed_before : List ℕ) (left : Image) (printed : List ℕ) → IsCopyList (pages_in before) count (map (λ copy. copy.page) ranges) → IsStaged count ranges left → ((left doublewrite_gate ≢ 1) → (area left ≡ area before) ⊎ (area left ≡ puts ranges (area before))) → puts ranges (area left) ≡ puts ranges (area before) → Agree (batch_places numbers) before left → printed ≡ printed_before → BatchLeft ranges numbers before printed_before left printed
+left_open count ranges numbers before printed_before left printed good staged closed whole others same = record {
   copies = open_rule (pages_in before) count ranges left staged good;
   whole = elim (cases_eq (left doublewrite_gate) 1) [
     | inl gate ↦ inr ((λ i. puts (open_copies count ranges left good.most staged gate i) (area left)) ∙ whole)
@@ -72,8 +73,8 @@ pub pages_in_batch : (numbers : List ℕ) → Within (page_places numbers) (batc
 pages_in_batch numbers place out = not_second (gate_place place) (page_places numbers place) (not_second (staged_places place) (either gate_place (page_places numbers) place) out)
 
 -- the first phase: the gate isn't 1
-pub while_staging : (ranges : List Range) (numbers : List ℕ) (before : Image) (told : List ℕ) (left : Image) (said : List ℕ) → before doublewrite_gate ≢ 1 → Agree staged_places before left → said ≡ told → BatchLeft ranges numbers before told left said
-while_staging ranges numbers before told left said shut agree same =
+pub while_staging : (ranges : List Range) (numbers : List ℕ) (before : Image) (printed_before : List ℕ) (left : Image) (printed : List ℕ) → before doublewrite_gate ≢ 1 → Agree staged_places before left → printed ≡ printed_before → BatchLeft ranges numbers before printed_before left printed
+while_staging ranges numbers before printed_before left printed shut agree same =
     let gate : left doublewrite_gate ≢ 1 = λ is. shut (agree 512 refl ∙ is) in
     record {
       copies = λ is. absurd (gate is);
@@ -89,11 +90,11 @@ gate_beside_copies : (one other : Image) → Agree gate_place one other → Same
 gate_beside_copies one other agree place low high = agree place (above 512 1 place (omega (arith, low)))
 
 -- the second: the gate is written
-pub while_opening : (count : ℕ) (ranges : List Range) (numbers : List ℕ) (before staged : Image) (told : List ℕ) (left : Image) (said : List ℕ) → IsCopyList (pages_in before) count (map (λ copy. copy.page) ranges) → IsStaged count ranges staged → Agree staged_places before staged → Agree gate_place staged left → said ≡ told → BatchLeft ranges numbers before told left said
-while_opening count ranges numbers before staged told left said good is_staged agree now same =
+pub while_opening : (count : ℕ) (ranges : List Range) (numbers : List ℕ) (before staged : Image) (printed_before : List ℕ) (left : Image) (printed : List ℕ) → IsCopyList (pages_in before) count (map (λ copy. copy.page) ranges) → IsStaged count ranges staged → Agree staged_places before staged → Agree gate_place staged left → printed ≡ printed_before → BatchLeft ranges numbers before printed_before left printed
+while_opening count ranges numbers before staged printed_before left printed good is_staged agree now same =
     let small : count ≤ 64 = good.most in
     let areas : area left ≡ area before = same_area gate_place staged left gate_below_area now ∙ same_area staged_places before staged staged_below_area agree in
-    left_open count ranges numbers before told left said good
+    left_open count ranges numbers before printed_before left printed good
     (staged_same count ranges staged left small is_staged (gate_beside_list staged left now) (gate_beside_copies staged left now))
     (λ shut. inl areas)
     (ap (puts ranges) areas)
@@ -108,12 +109,12 @@ pub record IsOpen (count : ℕ) (ranges : List Range) (numbers : List ℕ) (befo
   pub others : Agree (batch_places numbers) before opened
 
 -- the third: the pages are written in place
-pub while_placing : (count : ℕ) (ranges : List Range) (numbers : List ℕ) (before opened : Image) (told : List ℕ) (left : Image) (said : List ℕ) → IsCopyList (pages_in before) count (map (λ copy. copy.page) ranges) → map (λ range. range.page) ranges ≡ numbers → IsOpen count ranges numbers before opened → Agree (page_places numbers) opened left → said ≡ told → BatchLeft ranges numbers before told left said
-while_placing count ranges numbers before opened told left said good are state now same =
+pub while_placing : (count : ℕ) (ranges : List Range) (numbers : List ℕ) (before opened : Image) (printed_before : List ℕ) (left : Image) (printed : List ℕ) → IsCopyList (pages_in before) count (map (λ copy. copy.page) ranges) → map (λ range. range.page) ranges ≡ numbers → IsOpen count ranges numbers before opened → Agree (page_places numbers) opened left → printed ≡ printed_before → BatchLeft ranges numbers before printed_before left printed
+while_placing count ranges numbers before opened printed_before left printed good are state now same =
     let small : count ≤ 64 = good.most in
     let gate : left doublewrite_gate ≡ 1 = sym (now 512 (pages_above numbers 512 (omega arith))) ∙ state.gate in
     let covered : Agree (cover ranges) (area opened) (area left) = λ place out. now (area_place + place) (ap (λ (ns : List ℕ). page_places ns (area_place + place)) (sym are) ∙ pages_cover ranges place state.staged.whole ∙ out) in
-    left_open count ranges numbers before told left said good
+    left_open count ranges numbers before printed_before left printed good
     (staged_same count ranges opened left small state.staged (λ place low high. now place (pages_above numbers place (omega (arith, high)))) (λ place low high. now place (pages_above numbers place (omega (arith, high)))))
     (λ shut. absurd (shut gate))
     (sym (absorbs ranges (area opened) (area left) covered) ∙ ap (puts ranges) state.areas)
@@ -121,11 +122,11 @@ while_placing count ranges numbers before opened told left said good are state n
     same
 
 -- the fourth: the gate is closed
-pub while_closing : (count : ℕ) (ranges : List Range) (numbers : List ℕ) (before placed : Image) (told : List ℕ) (left : Image) (said : List ℕ) → IsCopyList (pages_in before) count (map (λ copy. copy.page) ranges) → IsStaged count ranges placed → area placed ≡ puts ranges (area before) → Agree (batch_places numbers) before placed → Agree gate_place placed left → said ≡ told → BatchLeft ranges numbers before told left said
-while_closing count ranges numbers before placed told left said good is_staged is_placed others now same =
+pub while_closing : (count : ℕ) (ranges : List Range) (numbers : List ℕ) (before placed : Image) (printed_before : List ℕ) (left : Image) (printed : List ℕ) → IsCopyList (pages_in before) count (map (λ copy. copy.page) ranges) → IsStaged count ranges placed → area placed ≡ puts ranges (area before) → Agree (batch_places numbers) before placed → Agree gate_place placed left → printed ≡ printed_before → BatchLeft ranges numbers before printed_before left printed
+while_closing count ranges numbers before placed printed_before left printed good is_staged is_placed others now same =
     let small : count ≤ 64 = good.most in
     let areas : area left ≡ puts ranges (area before) = same_area gate_place placed left gate_below_area now ∙ is_placed in
-    left_open count ranges numbers before told left said good
+    left_open count ranges numbers before printed_before left printed good
     (staged_same count ranges placed left small is_staged (gate_beside_list placed left now) (gate_beside_copies placed left now))
     (λ shut. inr areas)
     (ap (puts ranges) areas ∙ puts_again ranges (area before))
@@ -163,9 +164,6 @@ done_by count ranges numbers before placed now state gate is = record {
 }
 
 -- a restore: an image with the copies that counted
-abbrev pub restored_places : Image → Region
-restored_places before = either gate_place (page_places (copied_pages before))
-
 pub whole_copies : (image : Image) (k count : ℕ) → AreWhole (copies_from image k count)
 whole_copies image k zero = tt
 whole_copies image k (suc count) = (refl, length-slice image (copies_place + page_bytes * k) page_bytes, whole_copies image (suc k) count)
@@ -183,8 +181,8 @@ stand_staged pages before gate has =
     }
 
 -- no write was made
-pub unchanged : (pages : ℕ) (before : Image) (told : List ℕ) (left : Image) (said : List ℕ) → Agree no_place before left → said ≡ told → RestoreLeft pages before told left said
-unchanged pages before told left said agree same =
+pub unchanged : (pages : ℕ) (before : Image) (printed_before : List ℕ) (left : Image) (printed : List ℕ) → Agree no_place before left → printed ≡ printed_before → RestoreLeft pages before printed_before left printed
+unchanged pages before printed_before left printed agree same =
     let is : before ≡ left = λ i place. agree place refl i in
     record {
       copies = λ has. subst (HasCopies pages) is has;
@@ -194,8 +192,8 @@ unchanged pages before told left said agree same =
     }
 
 -- an image with the copies, whatever its gate
-pub left_restoring : (pages : ℕ) (before : Image) (told : List ℕ) (left : Image) (said : List ℕ) → before doublewrite_gate ≡ 1 → HasCopies pages before → IsStaged (copy_count before) (copies before) left → ((left doublewrite_gate ≢ 1) → area left ≡ laid before) → puts (copies before) (area left) ≡ laid before → Agree (restored_places before) before left → said ≡ told → RestoreLeft pages before told left said
-left_restoring pages before told left said gate has staged closed whole others same = record {
+pub left_restoring : (pages : ℕ) (before : Image) (printed_before : List ℕ) (left : Image) (printed : List ℕ) → before doublewrite_gate ≡ 1 → HasCopies pages before → IsStaged (copy_count before) (copies before) left → ((left doublewrite_gate ≢ 1) → area left ≡ laid before) → puts (copies before) (area left) ≡ laid before → Agree (restored_places before) before left → printed ≡ printed_before → RestoreLeft pages before printed_before left printed
+left_restoring pages before printed_before left printed gate has staged closed whole others same = record {
   copies = λ kept. open_rule pages (copy_count before) (copies before) left staged (has gate);
   same_pages = elim (cases_eq (left doublewrite_gate) 1) [
     | inl still ↦ (λ i. puts (open_copies (copy_count before) (copies before) left (has gate).most staged still i) (area left)) ∙ whole
@@ -212,13 +210,13 @@ pages_in_restore : (before : Image) → Within (page_places (copied_pages before
 pages_in_restore before place out = not_second (gate_place place) (page_places (copied_pages before) place) out
 
 -- the copies are laid over their pages
-pub while_laying : (pages : ℕ) (before : Image) (told : List ℕ) (left : Image) (said : List ℕ) → before doublewrite_gate ≡ 1 → HasCopies pages before → Agree (page_places (copied_pages before)) before left → said ≡ told → RestoreLeft pages before told left said
-while_laying pages before told left said gate has agree same =
+pub while_laying : (pages : ℕ) (before : Image) (printed_before : List ℕ) (left : Image) (printed : List ℕ) → before doublewrite_gate ≡ 1 → HasCopies pages before → Agree (page_places (copied_pages before)) before left → printed ≡ printed_before → RestoreLeft pages before printed_before left printed
+while_laying pages before printed_before left printed gate has agree same =
     let numbers = copied_pages before in
     let stand = stand_staged pages before gate has in
     let still : left doublewrite_gate ≡ 1 = sym (agree 512 (pages_above numbers 512 (omega arith))) ∙ gate in
     let covered : Agree (cover (copies before)) (area before) (area left) = λ place out. agree (area_place + place) (pages_cover (copies before) place stand.whole ∙ out) in
-    left_restoring pages before told left said gate has
+    left_restoring pages before printed_before left printed gate has
     (staged_same (copy_count before) (copies before) before left (has gate).most stand (λ place low high. agree place (pages_above numbers place (omega (arith, high)))) (λ place low high. agree place (pages_above numbers place (omega (arith, high)))))
     (λ shut. absurd (shut still))
     (sym (absorbs (copies before) (area before) (area left) covered))
@@ -241,10 +239,10 @@ over_by pages before now gate has agree is =
     }
 
 -- the gate is closed behind them
-pub while_ending : (pages : ℕ) (before placed : Image) (told : List ℕ) (left : Image) (said : List ℕ) → before doublewrite_gate ≡ 1 → HasCopies pages before → AreOver pages before placed → Agree gate_place placed left → said ≡ told → RestoreLeft pages before told left said
-while_ending pages before placed told left said gate has over agree same =
+pub while_ending : (pages : ℕ) (before placed : Image) (printed_before : List ℕ) (left : Image) (printed : List ℕ) → before doublewrite_gate ≡ 1 → HasCopies pages before → AreOver pages before placed → Agree gate_place placed left → printed ≡ printed_before → RestoreLeft pages before printed_before left printed
+while_ending pages before placed printed_before left printed gate has over agree same =
     let areas : area left ≡ laid before = same_area gate_place placed left gate_below_area agree ∙ over.areas in
-    left_restoring pages before told left said gate has
+    left_restoring pages before printed_before left printed gate has
     (staged_same (copy_count before) (copies before) placed left (has gate).most over.staged (gate_beside_list placed left agree) (gate_beside_copies placed left agree))
     (λ shut. areas)
     (ap (puts (copies before)) areas ∙ puts_again (copies before) (area before))

@@ -1,4 +1,5 @@
-pub mod InPlace
-pub mod Leaving
+mod InPlace
+mod Leaving
 mod Numbered
+pub mod PlaceLaws
 mod Staging

@@ -1,16 +1,17 @@
 -- The list of copies as numbers, and its rule as a test.
-use Rattle.std.proofs.Common.{◌≡◌, ◌≢◌, ℕ, suc, ◌+◌, ◌*◌, ◌<◌, ◌≤◌, ◌==◌, ◌&&◌, not, Bool, true, false, List, [], ◌∷◌, All, length, map, min, take, drop, refl, sym, ◌∙◌, ap, subst, arith}
+use Rattle.std.proofs.Common.{◌≡◌, ◌≢◌, ℕ, suc, ◌+◌, ◌*◌, ◌<◌, ◌≤◌, ◌==◌, ◌&&◌, not, Bool, true, false, List, [], ◌∷◌, All, length, map, min, take, refl, sym, ◌∙◌, ap, subst, arith}
 use Rattle.std.specs.Prelude.{nat_lt, slice_index}
 use Rattle.std.specs.List.{list_any}
 use Rattle.std.proofs.lemmas.List.Elements.{All-cons, All-head, All-tail}
-use Rattle.std.proofs.lemmas.List.{get_or-drop, get_or-take, length-take}
+use Rattle.std.proofs.lemmas.List.{get_or-take, length-take}
 use Rattle.std.proofs.lemmas.Bool.Decides.{nat_tests}
 use Rattle.byteorder.specs.Endian.{big_number}
 use Rattle.isp_disk.specs.Moments.{Image, slice}
-use Rattle.isp_format.proofs.Headers.{number_read, slice_byte}
+use Rattle.isp_format.proofs.Headers.{slice_byte}
 use Rattle.isp_format.proofs.Slices.{slice_moved}
 use Rattle.isp_doublewrite.specs.Lists.{HasNumbers, IsNumbers, are_good, is_copy_list}
-use Rattle.isp_format.specs.Doublewrite.{AreDistinct, HasCopies, IsCopyList, copies, copies_from, copy_count, doublewrite_gate, list_place, most_copies}
+use Rattle.isp_format.specs.Doublewrite.{AreDistinct, HasCopies, IsCopyList, copies, copies_from, copy_count, count_place, doublewrite_gate, list_place, list_size, most_copies}
+use Rattle.isp_format.specs.Header.{number_in}
 use Rattle.isp_format.specs.Numbers.{number_at}
 use Rattle.isp_format.specs.Ranges.{Range}
 use Rattle.isp_format.proofs.Local.{copies_open}
@@ -123,17 +124,13 @@ rule_back pages image numbers gate all has =
     list_back pages (copy_count image) (take (min (copy_count image) 64) numbers)
     (subst (λ (ns : List ℕ). IsCopyList pages (copy_count image) ns) (copied_are image numbers gate all) (has gate))
 
--- a number of the list, from the bytes that were read
-pub listed_number : (image : Image) (list : List ℕ) (k : ℕ) → list ≡ slice image 1024 260 → k < 64 → big_number 4 (drop (4 * k) (take 256 (drop 4 list))) ≡ number_at 4 image (list_place + 4 * k)
-listed_number image list k is small =
-    let piece : List ℕ = take 256 (drop 4 list) in
-    number_read 4 piece (4 * k)
-    ∙ ap (big_number 4) (slice_moved (slice_index piece) image (4 * k) (list_place + 4 * k) 4 (λ j less.
-    let behind : 1024 + (4 + (4 * k + j)) ≡ list_place + 4 * k + j = omega arith in
-    get_or-take 256 (drop 4 list) (4 * k + j) 0 (omega (arith, less, small))
-    ∙ get_or-drop 4 list (4 * k + j) 0
-    ∙ ap (λ (l : List ℕ). slice_index l (4 + (4 * k + j))) is
-    ∙ slice_byte image 1024 260 (4 + (4 * k + j)) (omega (arith, less, small))
+-- a number of the list, or how many count, from the bytes that were read
+pub listed_number : (image : Image) (list : List ℕ) (at place : ℕ) → list ≡ slice image count_place list_size → at + 4 ≤ list_size → place ≡ count_place + at → number_in 4 list at ≡ number_at 4 image place
+listed_number image list at place is inside there =
+    ap (big_number 4) (slice_moved (slice_index list) image at place 4 (λ j less.
+    let behind : count_place + (at + j) ≡ place + j = omega (arith, there) in
+    ap (λ (l : List ℕ). slice_index l (at + j)) is
+    ∙ slice_byte image count_place list_size (at + j) (omega (arith, less, inside))
     ∙ ap image behind))
 
 -- the copies that count, as many as numbers were taken

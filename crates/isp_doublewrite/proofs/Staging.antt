@@ -9,7 +9,7 @@ use Rattle.isp_format.specs.Ranges.{Range, page_bytes}
 use Rattle.isp_format.proofs.Places.{before_end, from_start, inside, not_first, not_second}
 use Rattle.isp_format.proofs.Slices.{number_agree, number_put, put_above, put_below, slice_agree, slice_put}
 use Rattle.byteorder.specs.Numbers.{length-bytes_high_first}
-use Rattle.isp_page.specs.declared.page.Page.{Page}
+use Rattle.isp_format.specs.declared.page.Page.{Page}
 use Rattle.isp_base.specs.declared.page_no.PageNo.{PageNo}
 
 -- the copies before the last of them

@@ -5,7 +5,7 @@ use Rattle.isp_doublewrite.specs.Places.{batch_places}
 use Rattle.isp_format.specs.Control.{pages_in}
 use Rattle.isp_format.specs.Doublewrite.{AreDistinct, HasCopies, area, copies_from, copy_count, doublewrite_gate, laid, most_copies}
 use Rattle.isp_format.specs.Ranges.{Range, page_bytes, puts}
-use Rattle.isp_page.specs.declared.page.Page.{Page}
+use Rattle.isp_format.specs.declared.page.Page.{Page}
 use Rattle.isp_base.specs.declared.page_no.PageNo.{PageNo}
 
 abbrev pub number_of : PageNo × Page → ℕ
@@ -48,8 +48,8 @@ pub record IsBatchDone (ranges : List Range) (numbers : List ℕ) (before now : 
   pub others : Agree (batch_places numbers) before now
 
 -- A stop leaves a list that keeps its rule, and with the copies laid over the pages none of the batch or all of it.
-pub record BatchLeft (ranges : List Range) (numbers : List ℕ) (before : Image) (told : List ℕ) (left : Image) (said : List ℕ) : Type 0 where
+pub record BatchLeft (ranges : List Range) (numbers : List ℕ) (before : Image) (printed_before : List ℕ) (left : Image) (printed : List ℕ) : Type 0 where
   pub copies : HasCopies (pages_in before) left
   pub whole : (laid left ≡ area before) ⊎ (laid left ≡ puts ranges (area before))
   pub others : Agree (batch_places numbers) before left
-  pub same : said ≡ told
+  pub same : printed ≡ printed_before

@@ -2,16 +2,16 @@
 use Rattle.std.specs.Prelude.{◌≡◌, ℕ, ◌+◌, ◌*◌, ◌<◌, ◌==◌, ◌&&◌, not, nat_lt, Bool, true, List, [], ◌∷◌, length, slice_index}
 use Rattle.std.specs.List.{list_any}
 use Rattle.isp_disk.specs.Moments.{Image}
-use Rattle.isp_format.specs.Doublewrite.{list_place}
+use Rattle.isp_format.specs.Doublewrite.{list_place, most_copies}
 use Rattle.isp_format.specs.Numbers.{number_at}
 
 -- these are the first numbers of the list
 abbrev pub HasNumbers : Image → List ℕ → Type 0
 HasNumbers image numbers = (k : ℕ) → k < length numbers → slice_index numbers k ≡ number_at 4 image (list_place + 4 * k)
 
--- these are all 64
+-- these are those of all copies
 pub record IsNumbers (image : Image) (numbers : List ℕ) : Type 0 where
-  pub all : length numbers ≡ 64
+  pub all : length numbers ≡ most_copies
   pub each : HasNumbers image numbers
 
 abbrev pub are_good : ℕ → List ℕ → Bool
@@ -20,4 +20,4 @@ are_good pages (number ∷ numbers) = nat_lt number pages && not (list_any (λ o
 
 -- so many copies, of these numbers
 abbrev pub is_copy_list : ℕ → ℕ → List ℕ → Bool
-is_copy_list pages count numbers = not (count == 0) && not (nat_lt 64 count) && are_good pages numbers
+is_copy_list pages count numbers = not (count == 0) && not (nat_lt most_copies count) && are_good pages numbers

@@ -6,11 +6,9 @@ ghost use Rattle.isp_doublewrite.specs.Batches.{BatchLeft, FitsBatch, IsBatchDon
 ghost use Rattle.isp_doublewrite.specs.Places.{page_places, staged_places};
 ghost use Rattle.isp_format.specs.Doublewrite.{most_copies};
 
-use crate::places::{
-    COUNT, all_bytes, copy_place, number_place, page_place, set_gate, write_number,
-};
+use crate::places::{all_bytes, set_gate, write_number};
 use isp_disk::{Failed, World};
-use isp_page::{Page, PageNo};
+use isp_format::{COUNT_PLACE, Page, PageNo, copy_place, number_place, page_place};
 
 /// Writes 1 to 64 pages in place, by way of copies. A stop at any moment leaves, with the copies laid over the pages, none
 /// of the batch or all of it, and every other byte outside the doublewrite area as it was. After it they are durable.
@@ -40,7 +38,7 @@ fn stage<W: World>(world: &mut W, batch: &[(PageNo, Page)]) -> Result<(), Failed
         → OnOk result (IsStaged (length batch.now) (map whole_page batch.now) (W.image world.new)) }
     ensures wrote { WritesIn W.World staged_places world.old world.new result }
 {
-    write_number(world, COUNT, batch.len() as u32)?;
+    write_number(world, COUNT_PLACE, batch.len() as u32)?;
     for (k, (number, page)) in batch.iter().enumerate() {
         write_number(world, number_place(k), number.0)?;
         world.write(copy_place(k), all_bytes(page))?;

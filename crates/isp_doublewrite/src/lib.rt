@@ -2,7 +2,7 @@
 //! the next start (the MySQL 8.0 manual on the doublewrite buffer). The gate, one byte, says whether the copies count; it
 //! and the order of the writes are this project's own.
 //!
-//! - `places`: where the doublewrite area and the pages stand.
+//! - `places`: what is written, and the gate.
 //! - `batch`: pages are written by way of copies.
 //! - `list`: the list of copies is read, and its rule tested.
 //! - `restore`: copies that count are laid over their pages.

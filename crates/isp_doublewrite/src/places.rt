@@ -1,47 +1,14 @@
-//! Where the doublewrite area and the pages stand in the file, and the gate.
-ghost use Rattle.std.specs.Prelude.{◌≡◌, ◌+◌, ◌*◌, ◌^◌, ◌<◌, [], ◌∷◌, OnOk, length};
+//! What is written: pages whole, numbers, and the gate.
+ghost use Rattle.std.specs.Prelude.{◌≡◌, ◌^◌, ◌<◌, [], ◌∷◌, OnOk, length};
 ghost use Rattle.isp_disk.specs.Moments.{Quiet, put};
 ghost use Rattle.isp_disk.specs.Phases.{IsWrite, WritesIn};
 ghost use Rattle.isp_doublewrite.specs.Places.{gate_place};
-ghost use Rattle.isp_format.specs.Doublewrite.{area_place, copies_place, doublewrite_gate, list_place};
+ghost use Rattle.isp_format.specs.Doublewrite.{doublewrite_gate};
 ghost use Rattle.isp_format.specs.Numbers.{bytes_of};
 ghost use Rattle.isp_format.specs.Ranges.{page_bytes};
 
-use byteorder::{BigEndian, ByteOrder};
 use isp_disk::{Failed, World};
-use isp_page::Page;
-
-/// The gate byte: the copies count where it is 1.
-pub(crate) const GATE: u64 = 512;
-
-/// The number of copies, in four bytes, and behind it the list of their page numbers.
-pub(crate) const COUNT: u64 = 1_024;
-
-/// How many copies there are at most.
-pub(crate) const MOST_COPIES: usize = 64;
-
-/// The place of a copy's page number.
-pub(crate) fn number_place(k: usize) -> u64
-    requires { k < 64 }
-    ensures { result ≡ list_place + 4 * k }
-{
-    1_028 + 4 * k as u64
-}
-
-/// The place of a copy.
-pub(crate) fn copy_place(k: usize) -> u64
-    requires { k < 64 }
-    ensures { result ≡ copies_place + page_bytes * k }
-{
-    4_096 + 4_096 * k as u64
-}
-
-/// The place of a page.
-pub(crate) fn page_place(number: u32) -> u64
-    ensures { result ≡ area_place + page_bytes * number }
-{
-    1_314_816 + 4_096 * number as u64
-}
+use isp_format::{DOUBLEWRITE_GATE, Page, u32_bytes};
 
 /// The bytes of a page.
 pub(crate) fn all_bytes(page: &Page) -> &[u8]
@@ -58,9 +25,7 @@ pub(crate) fn write_number<W: World>(world: &mut W, at: u64, number: u32) -> Res
     ensures write { IsWrite W.World at 4 world.old world.new result }
     ensures fits { number < 256 ^ 4 }
 {
-    let mut piece = [0; 4];
-    BigEndian::write_u32(&mut piece, number);
-    world.write(at, &piece)?;
+    world.write(at, &u32_bytes(number))?;
     Ok(())
 }
 
@@ -71,7 +36,7 @@ pub(crate) fn set_gate<W: World>(world: &mut W, gate: u8) -> Result<(), Failed>
         → OnOk result (W.image world.new ≡ put (W.image world.old) doublewrite_gate (gate ∷ [])) }
     ensures wrote { WritesIn W.World gate_place world.old world.new result }
 {
-    world.write(GATE, &[gate])?;
+    world.write(DOUBLEWRITE_GATE, &[gate])?;
     world.sync()?;
     Ok(())
 }

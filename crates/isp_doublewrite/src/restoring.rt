@@ -9,8 +9,9 @@ ghost use Rattle.isp_doublewrite.specs.Restores.{IsRestored, RestoreLeft};
 ghost use Rattle.isp_format.specs.Doublewrite.{copies_from, most_copies};
 
 use crate::list::{is_copy_list, read_gate, read_list};
-use crate::places::{MOST_COPIES, copy_place, page_place, set_gate};
+use crate::places::set_gate;
 use isp_disk::{Failed, World};
+use isp_format::{MOST_COPIES, PAGE_BYTES, copy_place, page_place};
 
 /// What became of the copies.
 #[derive(Clone, Copy, Debug, PartialEq, Eq)]
@@ -56,7 +57,7 @@ fn lay<W: World>(world: &mut W, numbers: &[u32]) -> Result<(), Failed>
         (W.image world.old) (W.image world.new)) }
     ensures wrote { WritesIn W.World (page_places numbers.now) world.old world.new result }
 {
-    let mut page = [0; 4_096];
+    let mut page = [0; PAGE_BYTES];
     for (k, number) in numbers.iter().enumerate() {
         world.read(copy_place(k), &mut page)?;
         world.write(page_place(*number), &page)?;

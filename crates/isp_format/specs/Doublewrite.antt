@@ -14,6 +14,10 @@ count_place = 1024
 abbrev pub list_place : ℕ
 list_place = 1028
 
+-- how many bytes the count and the list have
+abbrev pub list_size : ℕ
+list_size = 260
+
 abbrev pub copies_place : ℕ
 copies_place = 4096
 
@@ -23,6 +27,10 @@ most_copies = 64
 -- where the page area begins
 abbrev pub area_place : ℕ
 area_place = 1314816
+
+-- where a page lies
+abbrev pub page_place : ℕ → ℕ
+page_place page = area_place + page * page_bytes
 
 -- the pages as they stand in their places
 abbrev pub area : Image → Contents

@@ -1,6 +1,7 @@
 -- The pages of an empty file: the headers of the sixteen pages that every file has, and the first page never used.
 use Rattle.std.specs.Prelude.{ℕ, zero, suc, List, [], ◌∷◌, ◌++◌}
 use Rattle.isp_format.specs.Header.{Header, header_bytes}
+use Rattle.isp_format.specs.Kinds.{catalogue_kind, space_kind, undo_directory_kind}
 use Rattle.isp_format.specs.Numbers.{bytes_of}
 use Rattle.isp_format.specs.Ranges.{Contents, Range, puts}
 
@@ -10,9 +11,9 @@ first_fresh = 16
 
 -- page 0 has the space, page 1 the directory of undo chains, and the others the catalogue
 abbrev pub first_kind : ℕ → ℕ
-first_kind zero = 1
-first_kind (suc zero) = 2
-first_kind (suc (suc page)) = 3
+first_kind zero = space_kind
+first_kind (suc zero) = undo_directory_kind
+first_kind (suc (suc page)) = catalogue_kind
 
 abbrev pub first_header : ℕ → Header
 first_header page = record { kind = first_kind page; level = 0; count = 0; owner = 0; next = 0; prev = 0; ssn = 0; own = page; used = 0 }

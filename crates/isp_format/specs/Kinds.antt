@@ -2,6 +2,9 @@
 use Rattle.std.specs.Prelude.{◌≡◌, ℕ, ◌+◌, ◌*◌, List}
 use Rattle.isp_format.specs.Header.{header_of}
 
+abbrev pub free_kind : ℕ
+free_kind = 0
+
 abbrev pub space_kind : ℕ
 space_kind = 1
 

@@ -34,6 +34,16 @@ key_bytes key = bytes_of 8 (cast_unsigned w64 key)
 abbrev pub stored_head : ℕ
 stored_head = 13
 
+-- where the mark, the size of the slot and the length stand in them
+abbrev pub mark_place : ℕ
+mark_place = 8
+
+abbrev pub slot_place : ℕ
+slot_place = 9
+
+abbrev pub length_place : ℕ
+length_place = 11
+
 abbrev pub stored_bytes : Stored → List ℕ
 stored_bytes s = key_bytes s.key ++ (mark_byte s.marked ∷ (bytes_of 2 (slot_of s) ++ (bytes_of 2 (length s.row) ++ (s.row ++ s.rest))))
 

@@ -1,8 +1,10 @@
 pub mod Contents
 pub mod Control
+pub mod ControlValues
 pub mod Definition
 pub mod Doublewrite
 pub mod Empty
+pub mod HeadValues
 pub mod Header
 pub mod Inner
 pub mod Kinds
@@ -10,5 +12,7 @@ pub mod Leaf
 pub mod Log
 pub mod Numbers
 pub mod Ranges
+pub mod Sizes
 pub mod Space
+pub mod SpaceValues
 pub mod Undo

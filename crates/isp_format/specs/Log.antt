@@ -14,6 +14,18 @@ log_place = 266240
 abbrev pub log_bytes : ℕ
 log_bytes = 1048576
 
+-- how many bytes of a batch stand before its body: its gate, and the body's length
+abbrev pub batch_head : ℕ
+batch_head = 5
+
+-- how many bytes the number of a mini-transaction's ranges has
+abbrev pub count_size : ℕ
+count_size = 2
+
+-- how many bytes of a range stand before its own: its page, its place there and its length
+abbrev pub range_head : ℕ
+range_head = 8
+
 -- the log by itself, from place 0 on
 abbrev pub log_of : Image → Image
 log_of image place = image (log_place + place)
@@ -44,8 +56,8 @@ pub record IsBatch (pages : ℕ) (log : Image) (at : ℕ) (transactions : List T
   pub body : List ℕ
   pub gate : log at ≡ 1
   pub size : slice log (at + 1) 4 ≡ bytes_of 4 (length body)
-  pub stands : slice log (at + 5) (length body) ≡ body
-  pub behind : next ≡ at + 5 + length body
+  pub stands : slice log (at + batch_head) (length body) ≡ body
+  pub behind : next ≡ at + batch_head + length body
   pub inside : next < log_bytes
   pub means : IsBody pages transactions body
 

@@ -1,13 +1,12 @@
 -- A cache before and after a call, over any world.
 use Rattle.std.proofs.Common.{◌≡◌, ◌∙◌, ◌+◌, ◌*◌, ◌≤◌, ◌||◌, false, List, [], ◌∷◌, ℕ, suc, Option, Some, None, refl, sym, ap, subst, length, map, set, set-set}
 use Rattle.std.specs.Option.{option_map}
-use Rattle.isp_disk.specs.Moments.{Agree, Image, Region, Within, either, in_range, put}
+use Rattle.isp_disk.specs.Moments.{Agree, Region, Within, either, in_range, put}
 use Rattle.isp_disk.specs.declared.world.World.{Ghosts}
 use Rattle.isp_doublewrite.specs.Batches.{whole_page}
 use Rattle.isp_format.specs.Contents.{ranges_of}
-use Rattle.isp_format.specs.Control.{IsControl, fanout_in, pages_in}
-use Rattle.isp_format.specs.Doublewrite.{area, doublewrite_gate}
-use Rattle.isp_format.specs.Log.{IsLog, Transaction, log_bytes, log_of, log_place}
+use Rattle.isp_format.specs.Doublewrite.{area}
+use Rattle.isp_format.specs.Log.{Transaction, log_bytes, log_place}
 use Rattle.isp_format.specs.Ranges.{Contents, SameIn, cover, page_bytes, puts}
 use Rattle.isp_format.proofs.Places.{neither, not_first, not_second}
 use Rattle.isp_format.proofs.Puts.{mixes}
@@ -16,13 +15,13 @@ use Rattle.isp_frames.specs.Cached.{CachesAs, IsCached, StaysCached, now}
 use Rattle.isp_frames.specs.Gathered.{IsGathered}
 use Rattle.isp_frames.specs.Held.{AreClean, AreFree, cleaned_at, held_pages, now_over, pinned_places}
 use Rattle.isp_frames.specs.declared.cache.Cache.{Cache}
-use Rattle.isp_page.specs.declared.page.Page.{Page}
+use Rattle.isp_format.specs.declared.page.Page.{Page}
 use Rattle.isp_base.specs.declared.page_no.PageNo.{PageNo}
 use Rattle.isp_pool.specs.declared.frames.Frame.{Frame}
 use Rattle.isp_pool.specs.Frames.{IsPool, PoolState, changed, edited, frame_at, frame_in, fresh_frame, is_pinned, loaded, used}
 use Rattle.isp_stable.specs.File.{ArePagesOf, HasBatches, HasWritten, IsFile, KeepsShape, placed}
 use Rattle.isp_stable.specs.declared.stable.Stable.{Stable}
-use Rattle.isp_stable.proofs.Files.{beside, file_of}
+use Rattle.isp_stable.proofs.FileLaws.{file_same}
 use Rattle.isp_frames.proofs.HeldLaws.{change_now, change_pins}
 use Rattle.isp_frames.proofs.NowLaws.{IsLoading, changed_clean, loaded_clean, loaded_now, overwrite, pool_apart}
 use Rattle.isp_frames.proofs.PageLaws.{pages_same}
@@ -58,21 +57,6 @@ loaded_cleaned s i p page =
     (set-set s.frames i (option_map clean (frame_in s.frames i)) (Some (fresh_frame p page)))
 
 module _ {W : Type 0} (g : Ghosts W) where
-  -- the file after calls that wrote nothing
-  pub file_same : (s t : Stable W) (file : IsFile g s) → g.image t.world ≡ g.image s.world → t.log ≡ s.log → KeepsShape s t → HasBatches g t file.batches
-  file_same s t file image log shape =
-      let is = beside g s file in
-      let end : t.log.end ≡ s.log.end = λ i. (log i).end in
-      file_of g t file.batches (record {
-        control = subst IsControl (sym image) is.control;
-        pages_are = ap pages_in image ∙ is.pages_are ∙ sym shape.pages;
-        fanout_is = ap fanout_in image ∙ is.fanout_is ∙ sym shape.fanout;
-        closed = λ one. is.closed ((λ i. sym image i doublewrite_gate) ∙ one);
-      })
-      (subst (λ (pages : ℕ). IsLog pages (log_of (g.image t.world)) 0 file.batches t.log.end) (sym shape.pages)
-      (subst (λ (im : Image). IsLog s.pages (log_of im) 0 file.batches t.log.end) (sym image)
-      (subst (λ (n : ℕ). IsLog s.pages (log_of (g.image s.world)) 0 file.batches n) (sym end) file.log)))
-
   -- free frames over a file
   abbrev pub free_cached : (s : Cache W) → IsFile g s.stable → AreFree s.pool → IsCached g s
   free_cached s file free = record {
@@ -116,7 +100,7 @@ module _ {W : Type 0} (g : Ghosts W) where
   pub stays_read : (old : Cache W) (read : Stable W) (cached : IsCached g old) → g.image read.world ≡ g.image old.stable.world → read.log ≡ old.stable.log → KeepsShape old.stable read
       → StaysCached g old (record old { stable = read }) cached.file.batches
   stays_read old read cached image log shape =
-      stays_same old (record old { stable = read }) cached (file_same old.stable read cached.file image log shape) (ap area image) cached.clean (λ place out. out) refl (λ place low high i. sym image i place)
+      stays_same old (record old { stable = read }) cached (file_same g old.stable read cached.file image log shape) (ap area image) cached.clean (λ place out. out) refl (λ place low high i. sym image i place)
 
   -- a page was read into a frame
   pub stays_loaded : (old new : Cache W) (cached : IsCached g old) (i : ℕ) (p : PageNo) (page : Page) → IsPool old.pool
@@ -125,7 +109,7 @@ module _ {W : Type 0} (g : Ghosts W) where
   stays_loaded old new cached i p page kept image log shape l flag pool =
       let apart = pool_apart old.pool kept in
       let frames : set old.pool.frames i (Some (fresh_frame p page)) ≡ new.pool.frames = sym (ap (λ (s : PoolState). s.frames) pool) in
-      stays_same old new cached (file_same old.stable new.stable cached.file image log shape) (ap area image)
+      stays_same old new cached (file_same g old.stable new.stable cached.file image log shape) (ap area image)
       (subst (λ (fs : List (Option Frame)). AreClean fs (placed g old.stable)) frames (loaded_clean old.pool.frames (placed g old.stable) i p page cached.clean l))
       (within_same (pinned_places old.pool.frames) (pinned_places new.pool.frames) (ap pinned_places (sym frames) ∙ unpinned_set old.pool.frames i (fresh_frame p page) l.below flag refl))
       (ap (λ (fs : List (Option Frame)). now_over fs (placed g old.stable)) (sym frames) ∙ loaded_now old.pool.frames (placed g old.stable) i p page apart cached.clean l)

@@ -11,7 +11,7 @@ use Rattle.isp_format.specs.Ranges.{Contents, Range, puts}
 use Rattle.isp_format.proofs.Puts.{puts_append}
 use Rattle.isp_frames.specs.Gathered.{AreCovered, IsCleanPage, IsGathered, IsTaken}
 use Rattle.isp_frames.specs.Held.{AreApart, AreClean, IsCleaned, cleaned_at, now_over, numbered, pinned_places}
-use Rattle.isp_page.specs.declared.page.Page.{Page}
+use Rattle.isp_format.specs.declared.page.Page.{Page}
 use Rattle.isp_base.specs.declared.page_no.PageNo.{PageNo}
 use Rattle.isp_pool.specs.declared.frames.Frame.{Frame}
 use Rattle.isp_pool.specs.Frames.{IsPool, PoolState, edited, frame_at, frame_in, is_cleanable, is_dirty, is_pinned, one_if, page_of as page_in}

@@ -1,13 +1,13 @@
 -- A pool after a page came to stand in a frame, and after its bytes were changed.
-use Rattle.std.proofs.Common.{◌≡◌, ◌∙◌, ⊎_elim, ◌+◌, ◌*◌, ◌<◌, ◌≤◌, List, ℕ, Option, Some, refl, ap, subst, length}
+use Rattle.std.proofs.Common.{◌≡◌, ◌∙◌, ⊎_elim, ◌+◌, ◌*◌, ◌<◌, ◌≤◌, List, ℕ, Option, Some, None, refl, ap, subst, length}
 use Rattle.isp_disk.specs.Moments.{put}
 use Rattle.isp_format.specs.Ranges.{Contents, page_bytes}
 use Rattle.isp_frames.specs.Held.{AreBelow, IsHeldAt, now_over, pinned_places}
-use Rattle.isp_page.specs.declared.page.Page.{Page}
+use Rattle.isp_format.specs.declared.page.Page.{Page}
 use Rattle.isp_base.specs.declared.page_no.PageNo.{PageNo}
 use Rattle.isp_pool.specs.declared.frames.Frame.{Frame}
 use Rattle.isp_pool.specs.Frames.{IsPool, PoolState, changed, frame_at, frame_in, fresh_frame, loaded, page_of as page_in, used}
-use Rattle.isp_frames.proofs.NowLaws.{changed_now, edited_is, overwrite, pool_apart, set_cases, set_here}
+use Rattle.isp_frames.proofs.NowLaws.{changed_now, edited_is, overwrite, pool_apart, set_cases, set_here, some_is}
 use Rattle.isp_frames.proofs.PinLaws.{kept_pin}
 
 frames_are : (s t : PoolState) → s ≡ t → s.frames ≡ t.frames
@@ -36,3 +36,11 @@ change_now s placed i at bytes f pool e fits = changed_now s.frames placed i at 
 pub change_pins : (s : PoolState) (i at : ℕ) (bytes : List ℕ) (f : Frame) → frame_at s i ≡ Some f → pinned_places (changed s i at bytes).frames ≡ pinned_places s.frames
 change_pins s i at bytes f e =
     ap pinned_places (edited_is s.frames i f (overwrite at bytes) e) ∙ kept_pin s.frames i f (overwrite at bytes f) e refl refl
+
+-- the page and the frame of one that holds it
+pub holding : (s : PoolState) (i : ℕ) (p : PageNo) → page_in (frame_at s i) ≡ Some p → (f : Frame) × (frame_at s i ≡ Some f) × (f.page ≡ p)
+holding s i p is = of (frame_at s i) refl is
+  where
+    of : (o : Option Frame) → frame_at s i ≡ o → page_in o ≡ Some p → (f : Frame) × (frame_at s i ≡ Some f) × (f.page ≡ p)
+    of None there number = absurd (cc)
+    of (Some f) there number = (f, there, some_is f.page p number)

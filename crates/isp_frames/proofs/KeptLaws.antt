@@ -7,7 +7,7 @@ use Rattle.std.proofs.lemmas.List.Sums.{sum_by-cons}
 use Rattle.isp_format.specs.Ranges.{Contents, page_bytes}
 use Rattle.std.specs.Prelude.{slice_index}
 use Rattle.isp_frames.specs.Held.{AreApart, AreBelow, IsCleaned, but_dirty, cleaned_at, now_over, page_places}
-use Rattle.isp_page.specs.declared.page.Page.{Page}
+use Rattle.isp_format.specs.declared.page.Page.{Page}
 use Rattle.isp_base.specs.declared.page_no.PageNo.{PageNo}
 use Rattle.isp_pool.specs.declared.frames.Frame.{Frame}
 use Rattle.isp_pool.specs.Frames.{PoolState, edited, frame_at, frame_in, is_dirty, is_pinned, one_if, page_of as page_in}

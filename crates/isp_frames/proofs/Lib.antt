@@ -3,8 +3,8 @@ pub mod PageLaws
 pub mod PinLaws
 pub mod KeptLaws
 pub mod HeldLaws
-pub mod Gathering
+mod Gathering
 pub mod CacheLaws
-pub mod UseOrder
-pub mod Staying
-pub mod Settling
+mod UseOrder
+pub mod StayLaws
+mod Checkpoint

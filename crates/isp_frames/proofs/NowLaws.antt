@@ -10,12 +10,11 @@ use Rattle.isp_format.proofs.Headers.{slice_byte}
 use Rattle.isp_format.proofs.Places.{above, before_end, below, from_start, inside, not_first, not_second}
 use Rattle.isp_format.proofs.Puts.{absorbs}
 use Rattle.isp_format.proofs.Slices.{put_inside, put_outside, slice_agree, slice_beside, slice_put, length-slice}
-use Rattle.isp_page.specs.declared.page.Page.{Page}
+use Rattle.isp_format.specs.declared.page.Page.{Page}
 use Rattle.isp_base.specs.declared.page_no.PageNo.{PageNo}
 use Rattle.isp_pool.specs.declared.frames.Frame.{Frame}
 use Rattle.isp_pool.specs.Frames.{IsPool, PoolState, edited, frame_in, fresh_frame, is_dirty, is_held, overwritten, page_of as page_in}
-use Rattle.isp_pool.proofs.PoolLaws.{held_below, length-overwritten}
-use Rattle.isp_pool.proofs.StateLaws.{before_written, behind_written, in_written}
+use Rattle.isp_pool.proofs.StateLaws.{before_written, behind_written, held_below, in_written, length-overwritten}
 use Rattle.isp_frames.specs.Held.{AreApart, AreClean, held_pages, now_over, page_places, whole_frame}
 
 -- what is used of a pool here

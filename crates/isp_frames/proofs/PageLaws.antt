@@ -1,9 +1,10 @@
 -- Pages that are each the page of one of two contents, as they stood in their places or as they are now, over calls.
 use Rattle.std.proofs.Common.{◌≡◌, inl, inr, ⊎_elim, ◌∙◌, ◌*◌, ◌⊎◌, false, true, List, ℕ, Option, Some, sym, ap, subst, arith, length, map}
 use Rattle.std.proofs.lemmas.Bool.{cases_Bool, cases_eq}
-use Rattle.isp_disk.specs.Moments.{Agree, Image, Quiet}
+use Rattle.isp_disk.specs.Calls.{OnlyNow}
+use Rattle.isp_disk.specs.Moments.{Quiet}
 use Rattle.isp_disk.specs.declared.world.World.{Ghosts}
-use Rattle.isp_disk.proofs.Moments.{chains, started, widens}
+use Rattle.isp_disk.proofs.MomentLaws.{chains, started, widens}
 use Rattle.isp_doublewrite.specs.Batches.{whole_page}
 use Rattle.isp_format.specs.Doublewrite.{laid}
 use Rattle.isp_format.specs.Ranges.{Contents, page_bytes, page_of, place_of, puts}
@@ -12,13 +13,13 @@ use Rattle.isp_format.proofs.Slices.{slice_beside}
 use Rattle.isp_frames.specs.Cached.{now}
 use Rattle.isp_frames.specs.Held.{AreApart, now_over, page_places, whole_frame}
 use Rattle.isp_frames.specs.declared.cache.Cache.{Cache}
-use Rattle.isp_page.specs.declared.page.Page.{Page}
+use Rattle.isp_format.specs.declared.page.Page.{Page}
 use Rattle.isp_base.specs.declared.page_no.PageNo.{PageNo}
 use Rattle.isp_pool.specs.declared.frames.Frame.{Frame}
 use Rattle.isp_pool.specs.Frames.{frame_in}
 use Rattle.isp_stable.specs.File.{ArePagesOf, IsFile, LaysOnly, placed}
 use Rattle.isp_stable.specs.declared.stable.Stable.{Stable}
-use Rattle.isp_stable.proofs.Files.{reads_pages}
+use Rattle.isp_stable.proofs.FileLaws.{reads_pages}
 use Rattle.isp_frames.proofs.NowLaws.{in_place, now_page, range_is, same_page, slice_placed}
 
 -- contents that are the first of the two
@@ -68,20 +69,20 @@ pages_twice one other mid other_mid contents first same second page =
 module _ {W : Type 0} (g : Ghosts W) where
   -- calls that leave the pages as they stand
   pub lays_read : (s : Stable W) (other : Contents) (new : W) → LaysOnly g s.world new (λ contents. contents ≡ placed g s) → LaysOnly g s.world new (ArePagesOf (placed g s) other)
-  lays_read s other new leaves = widens g.clock g.left_since s.world new _ _ leaves (λ left told same. pages_same (placed g s) other (laid left) same)
+  lays_read s other new leaves = widens g.clock g.left_since s.world new _ _ leaves (λ left printed same. pages_same (placed g s) other (laid left) same)
 
   -- a batch of pages that is written or not
   pub lays_batch : (s : Stable W) (other : Contents) (batch : List (PageNo × Page)) (new : W) → ArePagesOf (placed g s) other (puts (map whole_page batch) (placed g s))
       → LaysOnly g s.world new (λ contents. (contents ≡ placed g s) ⊎ (contents ≡ puts (map whole_page batch) (placed g s))) → LaysOnly g s.world new (ArePagesOf (placed g s) other)
   lays_batch s other batch new all leaves = widens g.clock g.left_since s.world new _ _ leaves
-      (λ left told has. pages_either (placed g s) other (puts (map whole_page batch) (placed g s)) (laid left) all has)
+      (λ left printed has. pages_either (placed g s) other (puts (map whole_page batch) (placed g s)) (laid left) all has)
 
   -- no call at all
-  pub lays_still : (s : Stable W) (other : Contents) → IsFile g s → Quiet (g.pending s.world) → ((left : Image) (told : List ℕ) → g.left_since s.world (g.clock s.world) left told → Agree (g.pending s.world) (g.image s.world) left × (told ≡ g.printed s.world))
+  pub lays_still : (s : Stable W) (other : Contents) → IsFile g s → Quiet (g.pending s.world) → OnlyNow g s.world
       → LaysOnly g s.world s.world (ArePagesOf (placed g s) other)
   lays_still s other file quiet only =
       lays_read s other s.world
-      (reads_pages g s file s.world (started g.clock g.left_since s.world _ (λ left told since. let at_now = only left told since in ((λ place out. at_now.0 place (quiet place)), at_now.1))))
+      (reads_pages g s file s.world (started g.clock g.left_since s.world _ (λ left printed since. let at_now = only left printed since in ((λ place out. at_now.0 place (quiet place)), at_now.1))))
 
   -- one call behind another
   pub lays_twice : (old mid new : Cache W) → ArePagesOf (placed g old.stable) (now g old) (placed g mid.stable) → now g mid ≡ now g old
@@ -91,4 +92,4 @@ module _ {W : Type 0} (g : Ghosts W) where
   lays_twice old mid new pages same first second =
       chains g.clock g.left_since old.stable.world mid.stable.world new.stable.world _ first
       (widens g.clock g.left_since mid.stable.world new.stable.world _ _ second
-      (λ left told has. pages_twice (placed g old.stable) (now g old) (placed g mid.stable) (now g mid) (laid left) pages same has))
+      (λ left printed has. pages_twice (placed g old.stable) (now g old) (placed g mid.stable) (now g mid) (laid left) pages same has))

@@ -1,14 +1,26 @@
 -- A file whose pages are cached in frames, and what calls on the frames leave of it.
-use Rattle.std.specs.Prelude.{◌≡◌, ◌≤◌, List, [], Result, OnOk, vec_capacity}
+use Rattle.std.specs.Prelude.{◌≡◌, ◌≤◌, ℕ, List, [], Result, Ok, Err, IfErr, OnOk, vec_capacity}
 use Rattle.isp_disk.specs.Moments.{Agree, Quiet, either}
+use Rattle.isp_disk.specs.declared.world.Failed.{Failed}
 use Rattle.isp_disk.specs.declared.world.World.{Ghosts}
 use Rattle.isp_format.specs.Contents.{StandsFor, ranges_of}
 use Rattle.isp_format.specs.Control.{fanout_in, pages_in}
+use Rattle.isp_format.specs.Doublewrite.{most_copies}
 use Rattle.isp_format.specs.Log.{Transaction, log_bytes, log_place}
 use Rattle.isp_format.specs.Ranges.{Contents, SameIn, cover}
-use Rattle.isp_frames.specs.Held.{AreBelow, AreClean, NoneDirty, NonePinned, now_over, pinned_places}
+use Rattle.isp_frames.specs.Held.{AreBelow, AreClean, IsHeldAt, NoneDirty, NonePinned, now_over, pinned_places}
 use Rattle.isp_frames.specs.declared.cache.Cache.{Cache}
-use Rattle.isp_stable.specs.File.{ArePagesOf, HasBatches, IsFile, KeepsStable, LaysOnly, StandsOnly, flushed, placed}
+use Rattle.isp_base.specs.declared.page_no.PageNo.{PageNo}
+use Rattle.isp_pool.specs.Frames.{IsPool, PoolState, changed}
+use Rattle.isp_stable.specs.File.{ArePagesOf, HasBatches, IsFile, IsLogEmpty, KeepsStable, LaysOnly, StandsOnly, flushed, placed}
+use Rattle.isp_stable.specs.declared.stable.Stable.{Stable}
+
+-- the cache with another state of its file; with other frames
+abbrev pub with_stable : {W : Type 0} → Cache W → Stable W → Cache W
+with_stable s stable = record s { stable = stable }
+
+abbrev pub with_pool : {W : Type 0} → Cache W → PoolState → Cache W
+with_pool s pool = record s { pool = pool }
 
 module _ {W : Type 0} (g : Ghosts W) where
   -- the contents of all pages now
@@ -31,7 +43,7 @@ module _ {W : Type 0} (g : Ghosts W) where
   pub record IsIdle (s : Cache W) : Type 0 where
     pub steady : IsSteady s
     pub unpinned : NonePinned s.pool
-    pub room : 64 ≤ vec_capacity s.batch
+    pub room : most_copies ≤ vec_capacity s.batch
 
   -- The log has these batches, as before, and the file stands for the same contents; the contents now are these.
   pub record CachesAs (old new : Cache W) (batches : List (List Transaction)) (contents : Contents) : Type 0 where
@@ -62,6 +74,20 @@ module _ {W : Type 0} (g : Ghosts W) where
     pub stops : g.tells → (cached : IsCached old)
         → StandsOnly g old.stable new.stable.world (λ contents. contents ≡ flushed g old.stable cached.file.batches)
 
+  -- The page came to stand in a frame, and there these bytes were put into it.
+  pub record PutsBytes (p : PageNo) (at : ℕ) (bytes : List ℕ) (old new : Cache W) : Type 0 where
+    pub held : Cache W
+    pub frame : ℕ
+    pub kept : KeepsCache {T = ℕ} {E = Failed} old held (Ok frame)
+    pub is_held : IsHeldAt p frame old.pool held.pool
+    pub frames : IsPool held.pool
+    pub new_is : new ≡ with_pool held (changed held.pool frame at bytes)
+
+  -- What a call makes of the cache that puts bytes into a page. A failed one leaves what a call on the frames does.
+  pub record ChangesPage {T : Type 0} (p : PageNo) (at : ℕ) (bytes : List ℕ) (old new : Cache W) (result : Result T Failed) : Type 0 where
+    pub put : OnOk result (PutsBytes p at bytes old new)
+    pub failed : IfErr result (λ e. KeepsCache {T = T} {E = Failed} old new (Err e))
+
   -- where the file stands for the contents now, it stands for them at each stop since old
   abbrev pub LeavesNow : Cache W → W → Type 0
   LeavesNow old new = StandsFor (g.image old.stable.world) (now old) → StandsOnly g old.stable new (λ contents. contents ≡ now old)
@@ -75,8 +101,8 @@ module _ {W : Type 0} (g : Ghosts W) where
     pub fanout : fanout_in (g.image s.stable.world) ≡ s.stable.fanout
 
   -- all pages were written in place, and the log was emptied
-  pub record IsSettled (s : Cache W) : Type 0 where
+  pub record IsCheckpoint (s : Cache W) : Type 0 where
     pub idle : IsIdle s
     pub clean : NoneDirty s.pool
-    pub end : s.stable.log.end ≡ 0
+    pub empty : IsLogEmpty s.stable
     pub in_place : g.tells → IsInPlace s

@@ -5,7 +5,7 @@ use Rattle.isp_doublewrite.specs.Batches.{number_of, whole_page}
 use Rattle.isp_format.specs.Doublewrite.{AreDistinct}
 use Rattle.isp_format.specs.Ranges.{Contents, puts}
 use Rattle.isp_frames.specs.Held.{AreBelow, AreClean, IsCleaned, LeavesLaterUsed, now_over, pinned_places}
-use Rattle.isp_page.specs.declared.page.Page.{Page}
+use Rattle.isp_format.specs.declared.page.Page.{Page}
 use Rattle.isp_base.specs.declared.page_no.PageNo.{PageNo}
 use Rattle.isp_pool.specs.Frames.{PoolState, frame_in, is_dirty}
 use Rattle.isp_pool.specs.declared.frames.Frame.{Frame}

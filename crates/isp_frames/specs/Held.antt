@@ -1,8 +1,9 @@
 -- What the frames of a pool hold over the pages that stand in their places.
 use Rattle.std.specs.Prelude.{◌≡◌, ◌≢◌, ◌⊎◌, ℕ, ◌+◌, ◌*◌, ◌<◌, Bool, true, false, List, [], ◌∷◌, Option, Some, None, count_by, length, min}
 use Rattle.isp_disk.specs.Moments.{Region, either, in_range, no_place}
+use Rattle.isp_format.specs.Doublewrite.{most_copies}
 use Rattle.isp_format.specs.Ranges.{Contents, Range, page_bytes, page_of, puts}
-use Rattle.isp_page.specs.declared.page.Page.{Page}
+use Rattle.isp_format.specs.declared.page.Page.{Page}
 use Rattle.isp_base.specs.declared.page_no.PageNo.{PageNo}
 use Rattle.isp_pool.specs.Frames.{PoolState, frame_at, frame_in, is_cleanable, is_dirty, is_held, is_pinned, loaded, page_of as page_in, used, victim_of, with_frame}
 use Rattle.isp_pool.specs.declared.frames.Frame.{Frame}
@@ -47,7 +48,7 @@ AreBelow pages frames = (i : ℕ) (frame : Frame) → frame_in frames i ≡ Some
 -- no page stands in two frames, and a page has its bytes
 pub record AreApart (frames : List (Option Frame)) : Type 0 where
   pub distinct : (i j : ℕ) (p : PageNo) → page_in (frame_in frames i) ≡ Some p → page_in (frame_in frames j) ≡ Some p → i ≡ j
-  pub whole : (i : ℕ) (f : Frame) → frame_in frames i ≡ Some f → length f.content.bytes ≡ 4096
+  pub whole : (i : ℕ) (f : Frame) → frame_in frames i ≡ Some f → length f.content.bytes ≡ page_bytes
 
 -- no frame holds a page that has to stay; no frame is dirty; all frames are free
 abbrev pub NonePinned : PoolState → Type 0
@@ -64,6 +65,17 @@ abbrev pub IsHeldAt : PageNo → ℕ → PoolState → PoolState → Type 0
 IsHeldAt p i old new =
     ((page_in (frame_at old i) ≡ Some p) × (new ≡ used old i))
     ⊎ ((page : Page) × ((k : ℕ) → page_in (frame_at old k) ≢ Some p) × (victim_of old ≡ Some i) × (is_pinned (frame_at old i) ≡ false) × (i < length old.frames) × (new ≡ loaded old i p page))
+
+-- the page stands in a frame; it came to stand in one
+abbrev pub Holds : PoolState → PageNo → Type 0
+Holds s p = (i : ℕ) × (page_in (frame_at s i) ≡ Some p)
+
+abbrev pub BringsIn : PageNo → PoolState → PoolState → Type 0
+BringsIn p old new = (i : ℕ) × IsHeldAt p i old new
+
+-- what the frame of a page has was edited so, and nothing else was done
+abbrev pub EditsPage : PageNo → (Frame → Frame) → PoolState → PoolState → Type 0
+EditsPage p edit old new = (i : ℕ) → page_in (frame_at old i) ≡ Some p → new ≡ with_frame old i edit
 
 -- the frame but for whether it is dirty
 abbrev pub but_dirty : Option Frame → Option (PageNo × (Page × Bool))
@@ -89,7 +101,7 @@ LeavesLaterUsed old new =
 
 -- The dirty pages that were used the longest ago were cleaned, 64 at most and so many.
 pub record CleansSome (old new : PoolState) (cleaned : ℕ) : Type 0 where
-  pub count : cleaned ≡ min 64 (count_by is_dirty old.frames)
+  pub count : cleaned ≡ min most_copies (count_by is_dirty old.frames)
   pub left : count_by is_dirty new.frames + cleaned ≡ count_by is_dirty old.frames
   pub others : IsCleaned old new
   pub order : LeavesLaterUsed old new

@@ -1,17 +1,15 @@
 //! Dirty pages written in place.
 ghost use Rattle.std.specs.Prelude.{◌≡◌, ◌+◌, ◌<◌, ◌≤◌, count_by, length, min, vec_capacity, IfOk, OnOk};
-ghost use Rattle.isp_frames.specs.Cached.{IsIdle, IsSettled, KeepsCache, KeepsFile, LeavesNow, now};
+ghost use Rattle.isp_format.specs.Doublewrite.{most_copies};
+ghost use Rattle.isp_frames.specs.Cached.{IsIdle, IsCheckpoint, KeepsCache, KeepsFile, LeavesNow, now};
 ghost use Rattle.isp_frames.specs.Gathered.{IsTaken};
 ghost use Rattle.isp_frames.specs.Held.{CleansSome, IsCleaned, IsNextDirty, NoneDirty, NonePinned};
 ghost use Rattle.isp_pool.specs.Frames.{PoolState, is_dirty};
 
 use crate::cache::{Cache, numbered_page};
 use isp_disk::{Failed, World};
-use isp_page::{Page, PageNo};
+use isp_format::{MOST_COPIES, Page, PageNo};
 use isp_pool::Pool;
-
-/// How many pages a batch has at most: as many as there are copies in the doublewrite area.
-const MOST_PAGES: usize = 64;
 
 impl<W: World> Cache<W> {
     /// Writes up to 64 dirty pages in place, the least recently used first. Answers how many; where none is dirty the disk
@@ -49,10 +47,10 @@ impl<W: World> Cache<W> {
 
     /// Writes all dirty pages in place and empties the log. Where the file stands for the contents now, it stands for them
     /// at each stop.
-    pub fn settle(&mut self) -> Result<(), Failed>
+    pub fn checkpoint(&mut self) -> Result<(), Failed>
         requires { IsIdle W.World self.old }
         ensures file { KeepsFile W.World self.old self.new result }
-        ensures settled { OnOk result (IsSettled W.World self.new) }
+        ensures checkpoint { OnOk result (IsCheckpoint W.World self.new) }
         ensures cleaned { OnOk result (IsCleaned self.old.pool self.new.pool) }
         ensures contents { W.tells → OnOk result (now W.World self.new ≡ now W.World self.old) }
         ensures stops { W.tells → LeavesNow W.World self.old self.new.stable.world }
@@ -68,13 +66,13 @@ impl<W: World> Cache<W> {
 // here on.
 fn gather(pool: &mut Pool, batch: &mut Vec<(PageNo, Page)>)
     requires unpinned { NonePinned pool.old }
-    requires room { 64 ≤ vec_capacity batch.old }
+    requires room { most_copies ≤ vec_capacity batch.old }
     ensures taken { IsTaken pool.old pool.new batch.new.items }
-    ensures count { length batch.new.items ≡ min 64 (count_by is_dirty pool.old.frames) }
+    ensures count { length batch.new.items ≡ min most_copies (count_by is_dirty pool.old.frames) }
     ensures room { vec_capacity batch.new ≡ vec_capacity batch.old }
 {
     batch.clear();
-    'taking: while batch.len() < MOST_PAGES {
+    'taking: while batch.len() < MOST_COPIES {
         let Some(frame) = pool.last_dirty() else {
             return;
         };

@@ -6,8 +6,8 @@ ghost use Rattle.isp_pool.specs.declared.frames.Frame.{Frame};
 
 use crate::disks::{SIZE, Untold, has};
 use isp_disk::{MemWorld, World};
+use isp_format::{PAGE_BYTES, Page, PageNo};
 use isp_frames::Cache;
-use isp_page::{PAGE_BYTES, Page, PageNo};
 use isp_pool::Pool;
 use isp_redo::Log;
 use isp_stable::Stable;
@@ -17,26 +17,27 @@ use std::test::Fail;
 /// What is done with the frames.
 #[derive(Clone, Copy)]
 enum Call {
-    Hold(u32),
+    Read(u32),
     Change(u32),
     CleanSome,
     CleanAll,
-    Settle,
+    Checkpoint,
 }
 
 /// The call, what it answers, how many calls of the disk it makes, and the pages in the frames after it. A page is a thousand
 /// more where its frame is dirty; a free frame has 0.
 type Row = (Call, u64, u64, [u32; 3]);
 
-static ROWS: [Row; 16] = [
-    (Call::Hold(1), 0, 1, [1, 0, 0]),
-    (Call::Hold(2), 1, 1, [1, 2, 0]),
-    (Call::Hold(3), 2, 1, [1, 2, 3]),
-    (Call::Hold(1), 0, 0, [1, 2, 3]),
+static ROWS: [Row; 17] = [
+    (Call::Read(1), 11, 1, [1, 0, 0]),
+    (Call::Read(2), 12, 1, [1, 2, 0]),
+    (Call::Read(3), 13, 1, [1, 2, 3]),
     (Call::Change(2), 0, 0, [1, 1_002, 3]),
+    (Call::Read(3), 13, 0, [1, 1_002, 3]),
+    (Call::Read(1), 11, 0, [1, 1_002, 3]),
     // Page 2 was used longest ago. It is written as a batch of one, in ten calls, before page 4 is read.
-    (Call::Hold(4), 1, 11, [1, 4, 3]),
-    (Call::Hold(2), 2, 1, [1, 4, 2]),
+    (Call::Read(4), 14, 11, [1, 4, 3]),
+    (Call::Read(2), 12, 1, [1, 4, 2]),
     (Call::CleanSome, 0, 0, [1, 4, 2]),
     (Call::Change(1), 0, 0, [1_001, 4, 2]),
     (Call::Change(4), 0, 0, [1_001, 1_004, 2]),
@@ -46,7 +47,7 @@ static ROWS: [Row; 16] = [
     (Call::CleanAll, 0, 0, [1, 4, 2]),
     // The log is emptied besides: its first gate, and a sync.
     (Call::Change(2), 0, 0, [1, 4, 1_002]),
-    (Call::Settle, 0, 12, [1, 4, 2]),
+    (Call::Checkpoint, 0, 12, [1, 4, 2]),
 ];
 
 /// Three free frames over a file of 128 pages with something in its log, of which page n, if it is one of the first seven,
@@ -58,34 +59,13 @@ fn three_frames(alloc: Global) -> Result<Cache<Untold>, Fail> {
     for number in 0..7u8 {
         world.write(1_314_817 + u64::from(number) * 4_096, &[10 + number])?;
     }
-    Ok(Cache {
-        stable: Stable {
-            world: Untold { world },
-            log: Log { end: 16 },
-            pages: 128,
-            fanout: 4,
-        },
-        pool,
-        batch,
-        page: Page {
-            bytes: [0; PAGE_BYTES],
-        },
-    })
+    let stable = Stable::new(Untold { world }, Log { end: 16 }, 128, 4);
+    Ok(Cache::new(stable, pool, batch))
 }
 
 /// The disk of a cache that is done with.
 fn disk_of(cache: Cache<Untold>) -> MemWorld {
-    let Cache {
-        stable: Stable {
-            world: Untold { world },
-            log: _log,
-            pages: _pages,
-            fanout: _fanout,
-        },
-        pool: _pool,
-        batch: _batch,
-        page: _page,
-    } = cache;
+    let Untold { world } = cache.into_world();
     world
 }
 
@@ -119,26 +99,34 @@ fn is_ready(pool: &Pool, pages: u32) -> bool
     true
 }
 
-/// Makes a call. The frame or the count that it answers, 0 where it answers neither, or None where it fails.
+/// Makes a call. The second byte of the page that it reads, or the count that it answers, 0 where it answers neither, or None
+/// where it fails.
 fn make(cache: &mut Cache<Untold>, call: Call) -> Option<u64> {
-    if !is_ready(&cache.pool, cache.stable.pages) || cache.batch.capacity() < 64 {
+    let pages = cache.stable().pages();
+    if !is_ready(cache.pool(), pages) || cache.batch_room() < 64 {
         return None;
     }
     match call {
-        Call::Hold(number) => {
-            if number >= cache.stable.pages {
+        Call::Read(number) => {
+            if number >= pages {
                 return None;
             }
-            match cache.hold(PageNo(number)) {
-                Ok(frame) => Some(frame as u64),
+            let mut page = Page {
+                bytes: [0; PAGE_BYTES],
+            };
+            match cache.read(PageNo(number), &mut page) {
+                Ok(()) => Some(u64::from(page.bytes[1])),
                 Err(_) => None,
             }
         }
         Call::Change(number) => {
-            if let Some(frame) = cache.pool.find(PageNo(number)) {
-                cache.pool.change(frame, 0, &[7]);
+            if number >= pages {
+                return None;
             }
-            Some(0)
+            match cache.change(PageNo(number), 0, &[7]) {
+                Ok(()) => Some(0),
+                Err(_) => None,
+            }
         }
         Call::CleanSome => match cache.clean_some() {
             Ok(cleaned) => Some(u64::from(cleaned)),
@@ -148,7 +136,7 @@ fn make(cache: &mut Cache<Untold>, call: Call) -> Option<u64> {
             Ok(()) => Some(0),
             Err(_) => None,
         },
-        Call::Settle => match cache.settle() {
+        Call::Checkpoint => match cache.checkpoint() {
             Ok(()) => Some(0),
             Err(_) => None,
         },
@@ -169,10 +157,10 @@ fn told(pool: &Pool, frame: usize) -> u32 {
 
 /// Whether a call answers, makes and leaves what the row says.
 fn holds(cache: &mut Cache<Untold>, row: &Row) -> bool {
-    let before = cache.stable.world.world.calls();
+    let before = cache.stable().world().world.calls();
     let answer = make(cache, row.0);
-    let made = cache.stable.world.world.calls().checked_sub(before);
-    let pool = &cache.pool;
+    let made = cache.stable().world().world.calls().checked_sub(before);
+    let pool = cache.pool();
     answer == Some(row.1)
         && made == Some(row.2)
         && [told(pool, 0), told(pool, 1), told(pool, 2)] == row.3

@@ -1,7 +1,7 @@
 //! Extents and bodies, worked out by hand.
 
+use isp_format::PageNo;
 use isp_mini::{Body, Changes};
-use isp_page::PageNo;
 use std::alloc::{AllocError, Global};
 use std::test::Fail;
 

@@ -1,7 +1,7 @@
 //! A pool of three frames, worked out by hand.
 ghost use Rattle.std.specs.Prelude.{◌+◌, ◌≤◌, length};
 
-use isp_page::{Page, PageNo};
+use isp_format::{Page, PageNo};
 use isp_pool::Pool;
 use std::test::Fail;
 

@@ -2,12 +2,12 @@
 
 use crate::disks::{Piece, disk_with, has};
 use isp_disk::MemWorld;
+use isp_format::Page;
 use isp_frames::Cache;
 use isp_opening::open;
-use isp_page::{Page, StoreFault};
+use isp_page::StoreFault;
 use isp_pool::Pool;
 use isp_replay::replay;
-use isp_stable::Stable;
 use std::alloc::Global;
 use std::test::Fail;
 
@@ -28,29 +28,11 @@ static LOGGED: [Piece; 2] = [
 fn started(alloc: Global, world: MemWorld) -> Result<(Result<(), StoreFault>, MemWorld), Fail> {
     let pool = Pool::new(alloc, 64)?;
     let batch = Vec::with_capacity(alloc, 64)?;
-    let page = Page { bytes: [0; 4_096] };
     match open(world) {
         Ok(stable) => {
-            let mut cache = Cache {
-                stable,
-                pool,
-                batch,
-                page,
-            };
+            let mut cache = Cache::new(stable, pool, batch);
             let done = replay(&mut cache);
-            let Cache {
-                stable,
-                pool: _pool,
-                batch: _batch,
-                page: _page,
-            } = cache;
-            let Stable {
-                world,
-                log: _log,
-                pages: _pages,
-                fanout: _fanout,
-            } = stable;
-            Ok((done, world))
+            Ok((done, cache.into_world()))
         }
         Err((fault, world)) => Ok((Err(fault), world)),
     }

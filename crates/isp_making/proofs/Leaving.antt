@@ -6,9 +6,9 @@ use Rattle.byteorder.specs.Numbers.{big_number-reads_back}
 use Rattle.isp_disk.specs.Moments.{Image, Region, Agree, During, Elapses, LeavesOnly, Within, either, no_place, slice}
 use Rattle.isp_disk.specs.Phases.{LeftOfPhase, Phase}
 use Rattle.isp_disk.specs.declared.world.World.{Ghosts}
-use Rattle.isp_disk.proofs.Moments.{agree_wider, chains, goes_on, nothing_told, started, widens, within_both}
+use Rattle.isp_disk.proofs.MomentLaws.{agree_wider, chains, goes_on, nothing_told, started, widens, within_both}
 use Rattle.isp_format.specs.Contents.{StandsFor}
-use Rattle.isp_format.specs.Control.{IsControl, IsFanout, IsPages, fanout_in, file_name, made_gate, pages_in}
+use Rattle.isp_format.specs.Control.{IsControl, IsFanout, IsPages, control_bytes, fanout_in, file_name, made_gate, pages_in}
 use Rattle.isp_format.specs.Doublewrite.{area, area_place, doublewrite_gate}
 use Rattle.isp_format.specs.Log.{log_of}
 use Rattle.isp_format.specs.Ranges.{Range, puts}
@@ -16,7 +16,7 @@ use Rattle.isp_format.proofs.Local.{copies_closed}
 use Rattle.isp_format.proofs.Places.{above, below}
 use Rattle.isp_format.proofs.Slices.{slice_agree}
 use Rattle.isp_making.specs.Making.{IsMade, LeavesMaking}
-use Rattle.isp_making.specs.Places.{IsWritten, content_places, control_bytes, made_place}
+use Rattle.isp_making.specs.Places.{IsWritten, content_places, made_place}
 
 -- the numbers of a control block
 
@@ -84,32 +84,32 @@ whole_or_none pages fanout written left many wide is agree = elim (cases_eq (lef
 -- one step behind the other, from any world on
 module _ {W : Type 0} (g : Ghosts W) (pages fanout : ℕ) (region : Region) (old : W) where
   abbrev Left : Image → List ℕ → Type 0
-  Left left told = (Agree region (g.image old) left ⊎ ((left made_gate ≢ 1) ⊎ IsMade pages fanout left)) × (told ≡ g.printed old)
+  Left left printed = (Agree region (g.image old) left ⊎ ((left made_gate ≢ 1) ⊎ IsMade pages fanout left)) × (printed ≡ g.printed old)
 
   abbrev Leaves : W → Type 0
   Leaves new = LeavesMaking g pages fanout region old new
 
   -- the first sync, which may find bytes pending
-  pub syncs : (new : W) → ((left : Image) (told : List ℕ) → g.left_since old (g.clock old) left told → Agree (g.pending old) (g.image old) left × (told ≡ g.printed old)) → Within (g.pending old) region → Elapses (g.clock old) (g.clock new) (g.left_since old) (g.left_since new) (During (g.image old) (g.pending old) no_place (g.printed old) []) → Leaves new
+  pub syncs : (new : W) → ((left : Image) (printed : List ℕ) → g.left_since old (g.clock old) left printed → Agree (g.pending old) (g.image old) left × (printed ≡ g.printed old)) → Within (g.pending old) region → Elapses (g.clock old) (g.clock new) (g.left_since old) (g.left_since new) (During (g.image old) (g.pending old) no_place (g.printed old) []) → Leaves new
   syncs new only within time =
-      let now : LeavesOnly g.clock g.left_since old old Left = started g.clock g.left_since old Left (λ left told since. let was = only left told since in (inl (agree_wider (g.pending old) region (g.image old) left within was.0), was.1)) in
-      goes_on g.clock g.left_since old old new Left (During (g.image old) (g.pending old) no_place (g.printed old) []) now time (λ left told during.
-      (inl (agree_wider (either (g.pending old) no_place) region (g.image old) left (within_both (g.pending old) no_place region within (λ place out. refl)) during.agree), nothing_told (g.printed old) told during.part))
+      let now : LeavesOnly g.clock g.left_since old old Left = started g.clock g.left_since old Left (λ left printed since. let was = only left printed since in (inl (agree_wider (g.pending old) region (g.image old) left within was.0), was.1)) in
+      goes_on g.clock g.left_since old old new Left (During (g.image old) (g.pending old) no_place (g.printed old) []) now time (λ left printed during.
+      (inl (agree_wider (either (g.pending old) no_place) region (g.image old) left (within_both (g.pending old) no_place region within (λ place out. refl)) during.agree), nothing_told (g.printed old) printed during.part))
 
   -- the made-gate is read, and closed where it is open
   pub closes : (mid new : W) (touched : Region) → Leaves mid → Within touched region → g.image mid ≡ g.image old → g.printed mid ≡ g.printed old → Phase g mid new touched → Leaves new
-  closes mid new touched so_far within same told phase =
+  closes mid new touched so_far within same printed phase =
       chains g.clock g.left_since old mid new Left so_far (widens g.clock g.left_since mid new (LeftOfPhase g mid touched) Left phase.leaves (λ left said has.
-      (inl (agree_wider touched region (g.image old) left within (λ place out. ap (λ (x : Image). x place) (sym same) ∙ has.0 place out)), has.1 ∙ told)))
+      (inl (agree_wider touched region (g.image old) left within (λ place out. ap (λ (x : Image). x place) (sym same) ∙ has.0 place out)), has.1 ∙ printed)))
 
   -- all else is written while the made-gate is no 1
   pub fills : (mid new : W) → Leaves mid → g.image mid made_gate ≢ 1 → g.printed mid ≡ g.printed old → Phase g mid new content_places → Leaves new
-  fills mid new so_far shut told phase =
+  fills mid new so_far shut printed phase =
       chains g.clock g.left_since old mid new Left so_far (widens g.clock g.left_since mid new (LeftOfPhase g mid content_places) Left phase.leaves (λ left said has.
-      (inr (inl (λ is. shut (has.0 made_gate refl ∙ is))), has.1 ∙ told)))
+      (inr (inl (λ is. shut (has.0 made_gate refl ∙ is))), has.1 ∙ printed)))
 
   -- the made-gate is opened: it is no 1, or the file is whole
   pub opens : (mid new : W) → Leaves mid → IsPages pages → IsFanout fanout → IsWritten pages fanout (g.image mid) → g.printed mid ≡ g.printed old → Phase g mid new made_place → Leaves new
-  opens mid new so_far many wide written told phase =
+  opens mid new so_far many wide written printed phase =
       chains g.clock g.left_since old mid new Left so_far (widens g.clock g.left_since mid new (LeftOfPhase g mid made_place) Left phase.leaves (λ left said has.
-      (inr (whole_or_none pages fanout (g.image mid) left many wide written has.0), has.1 ∙ told)))
+      (inr (whole_or_none pages fanout (g.image mid) left many wide written has.0), has.1 ∙ printed)))

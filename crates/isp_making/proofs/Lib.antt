@@ -1,3 +1,2 @@
-mod EmptyPages
 mod Leaving
 mod Writing

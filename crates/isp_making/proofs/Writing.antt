@@ -1,17 +1,16 @@
 -- What is written before the made-gate.
-use borrow.Rule.Slice.PartMut.{put_mid}
-use Rattle.std.proofs.Common.{◌≡◌, ℕ, ◌+◌, ◌*◌, ◌<◌, List, [], ◌∷◌, ◌++◌, length, replicate, refl, sym, ◌∙◌, ap, arith}
+use Rattle.std.proofs.Common.{◌≡◌, ℕ, ◌+◌, ◌*◌, ◌<◌, [], ◌∷◌, refl, sym, ◌∙◌, ap, arith}
 use Rattle.isp_disk.specs.Moments.{Image, Agree, Within, either, in_range, put, slice}
-use Rattle.isp_format.specs.Control.{file_name, made_gate}
+use Rattle.isp_format.specs.Control.{control_bytes, made_gate}
 use Rattle.isp_format.specs.Doublewrite.{area, area_place, doublewrite_gate}
 use Rattle.isp_format.specs.Empty.{empty_contents, first_fresh}
 use Rattle.isp_format.specs.Log.{log_place}
-use Rattle.isp_format.specs.Numbers.{bytes_of}
 use Rattle.isp_format.specs.Ranges.{page_bytes}
 use Rattle.isp_format.proofs.Offsets.{put_first, range_within}
 use Rattle.isp_format.proofs.Places.{below, not_first, not_second}
 use Rattle.isp_format.proofs.Slices.{put_below, slice_agree, slice_put}
-use Rattle.isp_making.specs.Places.{IsWritten, content_places, control_bytes, first_places}
+use Rattle.isp_making.specs.Places.{IsWritten, content_places, first_places}
+use Rattle.isp_format.proofs.ControlBytes.{control_long}
 
 -- the places of each write are among those of all
 
@@ -29,15 +28,6 @@ pages_within place out = not_second (in_range log_place 1 place) (first_places p
 
 pub page_within : (page : ℕ) → page < first_fresh → Within (in_range (area_place + page * page_bytes) page_bytes) first_places
 page_within page less = range_within area_place (first_fresh * page_bytes) (area_place + page * page_bytes) page_bytes (omega arith) (omega (arith, less))
-
-pub control_long : (pages fanout : ℕ) → length (control_bytes pages fanout) ≡ 63
-unfolding file_name
-control_long pages fanout = refl
-
--- the control block as it is put together
-pub control_made : (name many wide : List ℕ) (pages fanout : ℕ) → name ≡ file_name → many ≡ bytes_of 4 pages → wide ≡ bytes_of 4 fanout → put_mid 12 4 (put_mid 8 4 (name ++ replicate 55 0) many) wide ≡ control_bytes pages fanout
-unfolding file_name
-control_made name many wide pages fanout is_name is_many is_wide = λ i. put_mid 12 4 (put_mid 8 4 (is_name i ++ replicate 55 0) (is_many i)) (is_wide i)
 
 -- the image with the control block and the two closed gates
 abbrev pub with_front : ℕ → ℕ → Image → Image

@@ -1,11 +1,10 @@
 -- Which places of the file are written, and what they then read.
-use Rattle.std.specs.Prelude.{◌≡◌, ℕ, ◌*◌, ◌<◌, List, ◌++◌, replicate}
+use Rattle.std.specs.Prelude.{◌≡◌, ℕ, ◌*◌, ◌<◌}
 use Rattle.isp_disk.specs.Moments.{Image, Region, either, in_range, slice}
-use Rattle.isp_format.specs.Control.{file_name, made_gate}
+use Rattle.isp_format.specs.Control.{control_bytes, made_gate}
 use Rattle.isp_format.specs.Doublewrite.{area, area_place, doublewrite_gate}
 use Rattle.isp_format.specs.Empty.{empty_contents, first_fresh}
 use Rattle.isp_format.specs.Log.{log_of, log_place}
-use Rattle.isp_format.specs.Numbers.{bytes_of}
 use Rattle.isp_format.specs.Ranges.{page_bytes}
 
 abbrev pub made_place : Region
@@ -22,10 +21,6 @@ content_places = either (in_range 0 made_gate) (either (in_range doublewrite_gat
 -- all that is written
 abbrev pub file_places : Region
 file_places = either made_place content_places
-
--- the control block before its made-gate, which is its last byte
-abbrev pub control_bytes : ℕ → ℕ → List ℕ
-control_bytes pages fanout = file_name ++ (bytes_of 4 pages ++ (bytes_of 4 fanout ++ replicate 47 0))
 
 -- a made file but for its made-gate
 pub record IsWritten (pages fanout : ℕ) (image : Image) : Type 0 where

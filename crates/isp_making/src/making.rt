@@ -6,10 +6,11 @@ ghost use Rattle.isp_format.specs.Control.{IsFanout, IsPages, made_gate};
 ghost use Rattle.isp_making.specs.Making.{IsMade, LeavesMaking};
 ghost use Rattle.isp_making.specs.Places.{IsWritten, content_places, file_places, made_place};
 
-use crate::control::control_bytes;
-use crate::first_pages::{FIRST_FRESH, first_page};
-use crate::places::{DOUBLEWRITE_GATE, LOG_GATE, MADE_GATE, page_place, set_gate};
+use crate::places::set_gate;
 use isp_disk::{Failed, World};
+use isp_format::{
+    DOUBLEWRITE_GATE, FIRST_FRESH, LOG_PLACE, MADE_GATE, control_bytes, first_page, page_place,
+};
 
 /// Makes an empty file of so many pages, with this fan-out for its R-trees. The file is one once its made-gate is on the
 /// disk, which is written when all else is durable, and before that only to close it where it is 1. Pages past the first
@@ -41,7 +42,7 @@ fn close_gate<W: World>(world: &mut W) -> Result<(), Failed>
     ensures wrote { WritesIn W.World made_place world.old world.new result }
 {
     let mut gate = [0];
-    world.read(MADE_GATE, &mut gate)?;
+    world.read(MADE_GATE as u64, &mut gate)?;
     if gate[0] != 1 {
         return Ok(());
     }
@@ -57,7 +58,7 @@ fn write_contents<W: World>(world: &mut W, pages: u32, fanout: u32) -> Result<()
 {
     world.write(0, &control_bytes(pages, fanout))?;
     world.write(DOUBLEWRITE_GATE, &[0])?;
-    world.write(LOG_GATE, &[0])?;
+    world.write(LOG_PLACE, &[0])?;
     for number in 0..FIRST_FRESH {
         world.write(page_place(number), &first_page(number).bytes)?;
     }

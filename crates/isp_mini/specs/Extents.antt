@@ -4,7 +4,7 @@ use Rattle.std.specs.Prelude.{ℕ, ◌+◌, ◌*◌, ◌-◌, ◌<◌, ◌≤◌
 use Rattle.std.specs.List.{flat_map}
 use Rattle.isp_disk.specs.Moments.{Region, either, in_range, no_place, slice}
 use Rattle.isp_format.specs.Doublewrite.{AreDistinct}
-use Rattle.isp_format.specs.Log.{Transaction, range_bytes}
+use Rattle.isp_format.specs.Log.{Transaction, count_size, range_bytes, range_head}
 use Rattle.isp_format.specs.Numbers.{bytes_of}
 use Rattle.isp_format.specs.Ranges.{Contents, Range, page_bytes}
 use Rattle.isp_page.specs.State.{most_changed}
@@ -56,7 +56,7 @@ pub record AreExtents (extents : List Extent) : Type 0 where
 
 -- how many bytes the body of the largest mini-transaction has
 abbrev pub largest_body : ℕ
-largest_body = 196994
+largest_body = count_size + most_changed * (range_head + page_bytes)
 
 -- a body as far as its first ranges: how many ranges it is to have, and those of the first i extents
 abbrev pub body_front : ℕ → Contents → List Extent → ℕ → List ℕ

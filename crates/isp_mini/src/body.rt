@@ -1,16 +1,20 @@
 //! The body of a batch with one mini-transaction.
 ghost use Rattle.std.specs.Prelude.{◌≡◌, ◌+◌, ◌≤◌, ◌++◌, [], IfOk, length, vec_capacity};
-ghost use Rattle.isp_format.specs.Log.{range_bytes};
+ghost use Rattle.isp_format.specs.Log.{range_bytes, range_head};
 ghost use Rattle.isp_format.specs.Numbers.{bytes_of};
 ghost use Rattle.isp_format.specs.Ranges.{page_bytes};
 ghost use Rattle.isp_mini.specs.Extents.{largest_body};
 
-use isp_page::PageNo;
+use isp_format::{
+    COUNT_BYTES, PAGE_BYTES, PageNo, RANGE_HEAD, RangeHead, range_head_bytes, u16_bytes,
+};
+use isp_page::MOST_CHANGED;
 use std::alloc::{AllocError, Global};
 use std::marker::Model;
 
 /// How many bytes the body of the largest mini-transaction has: 48 pages changed from their first byte to their last.
-pub const LARGEST_BODY: usize = 196_994;
+pub const LARGEST_BODY: usize = COUNT_BYTES as usize
+    + MOST_CHANGED * (RANGE_HEAD as usize + PAGE_BYTES);
 
 /// The bytes of a body, with room for the largest.
 #[derive(Drop)]
@@ -43,20 +47,22 @@ impl Body {
         ensures { self.new ≡ bytes_of 2 count }
     {
         self.bytes.clear();
-        append(&mut self.bytes, &count.to_be_bytes());
+        append(&mut self.bytes, &u16_bytes(count));
     }
 
     /// Spells one more range: bytes of a page from `at` on.
     pub fn push(&mut self, page: PageNo, at: u16, bytes: &[u8])
         requires range { length bytes.now ≤ page_bytes }
-        requires room { length self.old + 8 + length bytes.now ≤ largest_body }
+        requires room { length self.old + range_head + length bytes.now ≤ largest_body }
         ensures { self.new ≡ self.old
             ++ range_bytes (record { page = page.0; at = at; bytes = bytes.now }) }
     {
-        let len = bytes.len() as u16;
-        append(&mut self.bytes, &page.0.to_be_bytes());
-        append(&mut self.bytes, &at.to_be_bytes());
-        append(&mut self.bytes, &len.to_be_bytes());
+        let head = RangeHead {
+            page: page.0,
+            at,
+            len: bytes.len() as u16,
+        };
+        append(&mut self.bytes, &range_head_bytes(head));
         append(&mut self.bytes, bytes);
     }
 

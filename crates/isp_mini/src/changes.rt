@@ -5,12 +5,10 @@ ghost use Rattle.isp_format.specs.Ranges.{page_bytes};
 ghost use Rattle.isp_page.specs.State.{most_changed};
 ghost use Rattle.isp_mini.specs.Extents.{AreExtents, widened, with_extent};
 
-use isp_page::PageNo;
+use isp_format::PageNo;
+use isp_page::MOST_CHANGED;
 use std::alloc::{AllocError, Global};
 use std::marker::Model;
-
-/// How many pages a mini-transaction may change.
-const MOST_CHANGED: usize = 48;
 
 /// The bytes of a page from `at` to before `end`.
 #[derive(Clone, Copy, PartialEq, Eq)]

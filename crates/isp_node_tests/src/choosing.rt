@@ -1,8 +1,8 @@
 //! Choices of a subtree.
 use crate::making::{are_children, boxes_of, page_of};
 use isp_forest::{Entry, To};
+use isp_format::PageNo;
 use isp_mbr::Box4;
-use isp_page::PageNo;
 use isp_rnode::{choose, choose_in, entry_count, readable, set_entries};
 use std::alloc::{AllocError, Global};
 use std::test::Fail;

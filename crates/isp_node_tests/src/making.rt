@@ -6,8 +6,8 @@ ghost use Rattle.isp_forest.specs.Tree.{child_in, child_of};
 ghost use Rattle.isp_forest.specs.declared.entry.Entry.{Entry};
 
 use isp_forest::{Entry, To};
+use isp_format::{Head, PAGE_BYTES, Page, PageNo, set_head};
 use isp_mbr::Box4;
-use isp_page::{Head, PAGE_BYTES, Page, PageNo, set_head};
 use std::alloc::{AllocError, Global};
 
 /// The boxes with these corners; fewer where some are out of order.

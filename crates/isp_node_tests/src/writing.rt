@@ -1,8 +1,8 @@
 //! Pages of entries, written and read back, and pages that can't be read.
 use crate::making::{are_children, are_rows, page_of};
 use isp_forest::{Entry, To};
+use isp_format::{Head, Page, PageNo, head};
 use isp_mbr::Box4;
-use isp_page::{Head, Page, PageNo, head};
 use isp_rnode::{entries, entry, entry_count, readable, set_entries};
 use std::alloc::{AllocError, Global};
 use std::test::Fail;

@@ -31,7 +31,7 @@ pub record StandAlike (one other : Image) : Type 0 where
 module _ {W : Type 0} (g : Ghosts W) where
   -- a stop leaves what one could leave as the call began, or an image that stands for what the image stood for then
   abbrev pub LeftOpening : W → Image → List ℕ → Type 0
-  LeftOpening old left told = (Agree (g.pending old) (g.image old) left ⊎ StandAlike (g.image old) left) × (told ≡ g.printed old)
+  LeftOpening old left printed = (Agree (g.pending old) (g.image old) left ⊎ StandAlike (g.image old) left) × (printed ≡ g.printed old)
 
   -- what an opening leaves alone, done or not: it prints nothing, and no print fails in it
   pub record KeepsWorld (old now : W) : Type 0 where

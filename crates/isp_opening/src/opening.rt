@@ -7,7 +7,7 @@ ghost use Rattle.isp_format.specs.Control.{IsControl, pages_in};
 ghost use Rattle.isp_opening.specs.Finding.{AreInPlace, disk_part, fault_of, file_of};
 ghost use Rattle.isp_opening.specs.Opening.{IsOpened, KeepsWorld, RefusesWith, world_after};
 
-use crate::rules::{Found, Refusal, test_rules};
+use crate::rules::{FileParts, OpenFault, test_rules};
 use isp_disk::{Failed, World};
 use isp_doublewrite::{Restored, restore};
 use isp_page::StoreFault;
@@ -22,28 +22,31 @@ pub fn open<W: World>(world: W) -> Result<Stable<W>, (StoreFault, W)>
 {
     let mut world = world;
     match open_file(&mut world) {
-        Ok(found) => Ok(Stable {
-            world,
-            log: found.log,
-            pages: found.control.pages,
-            fanout: found.control.fanout,
-        }),
-        Err(refusal) => Err((fault_of(refusal), world)),
+        Ok(found) => Ok(file_of(world, found)),
+        Err(fault) => Err((fault_of(fault), world)),
     }
 }
 
-// The refusal as it is told. Page 0 has the blocks in which the rules show.
-fn fault_of(refusal: Refusal) -> StoreFault
-    ensures { result ≡ fault_of refusal }
+// The file that was found in a world.
+fn file_of<W: World>(world: W, found: FileParts) -> Stable<W>
+    ensures { result ≡ file_of world found }
 {
-    match refusal {
-        Refusal::Disk => StoreFault::Disk,
-        Refusal::Broken(rule) => StoreFault::Damaged { page: 0, rule },
+    let control = found.control;
+    Stable::new(world, found.log, control.pages, control.fanout)
+}
+
+// The fault of a store of pages. Page 0 has the blocks in which the rules show.
+fn fault_of(fault: OpenFault) -> StoreFault
+    ensures { result ≡ fault_of fault }
+{
+    match fault {
+        OpenFault::Disk => StoreFault::Disk,
+        OpenFault::Broken(rule) => StoreFault::Damaged { page: 0, rule },
     }
 }
 
 // Opens the file of a world, and answers what it has.
-fn open_file<W: World>(world: &mut W) -> Result<Found, Refusal>
+fn open_file<W: World>(world: &mut W) -> Result<FileParts, OpenFault>
     ensures opened { IfOk result (λ found. IsOpened W.World world.old (file_of world.new found)) }
     ensures refused { IfErr result (λ e. RefusesWith W.World world.old (fault_of e) world.new) }
     ensures kept { KeepsWorld W.World world.old world.new }
@@ -65,7 +68,7 @@ fn make_durable<W: World>(world: &mut W) -> Result<(), Failed>
 }
 
 // Lays the copies that count over their pages, of a file of so many pages.
-fn lay_copies<W: World>(world: &mut W, pages: u32) -> Result<(), Refusal>
+fn lay_copies<W: World>(world: &mut W, pages: u32) -> Result<(), OpenFault>
     requires quiet { Quiet (W.pending world.old) }
     requires control { W.tells → IsControl (W.image world.old)
         × (pages_in (W.image world.old) ≡ pages) }
@@ -77,6 +80,6 @@ fn lay_copies<W: World>(world: &mut W, pages: u32) -> Result<(), Refusal>
 {
     match restore(world, pages)? {
         Restored::Nothing | Restored::Laid => Ok(()),
-        Restored::Bad => Err(Refusal::Broken(2)),
+        Restored::Bad => Err(OpenFault::Broken(2)),
     }
 }

@@ -1,5 +1,4 @@
 mod Differences
-pub mod Growing
-mod Heading
+pub mod GrowthLaws
 mod Making
-pub mod Touching
+mod Touching

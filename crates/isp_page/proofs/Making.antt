@@ -1,32 +1,21 @@
--- The pages of an empty file are made header by header.
-use Rattle.std.proofs.Common.{◌≡◌, ℕ, suc, ◌+◌, ◌*◌, ◌≤◌, List, [], ◌∷◌, length, take, sym, ◌∙◌, arith}
+-- The pages of an empty file are made page by page.
+use Rattle.std.proofs.Common.{◌≡◌, ℕ, ◌+◌, ◌*◌, ◌<◌, ◌≤◌, List, length, sym, ◌∙◌, ap, arith}
 use Rattle.isp_disk.specs.Moments.{Image, image_of, put}
-use Rattle.isp_format.specs.Empty.{empty_contents, first_fresh, first_header, first_headers, fresh_range}
-use Rattle.isp_format.specs.Header.{Header, header_bytes}
-use Rattle.isp_format.specs.Ranges.{Contents, Range, page_bytes, puts}
-use Rattle.isp_format.proofs.Puts.{puts_append}
-use Rattle.isp_format.proofs.Slices.{piece_slice, slice_agree, slice_put}
+use Rattle.isp_format.specs.Empty.{empty_contents}
+use Rattle.isp_format.specs.Ranges.{page_bytes}
+use Rattle.isp_format.proofs.EmptyPages.{page_more_from}
+use Rattle.isp_format.proofs.Slices.{put_above}
 
--- contents before anything is put
-abbrev pub zeros : Contents
-zeros place = 0
+module _ (now : Image) (k : ℕ) (bytes : List ℕ) (long : length bytes ≡ page_bytes) where
+  -- one page more stands before
+  pub first_more : ((place : ℕ) → place < k * page_bytes → now place ≡ empty_contents place) → ((place : ℕ) → place < page_bytes → image_of bytes place ≡ empty_contents (k * page_bytes + place)) → (place : ℕ) → place < (k + 1) * page_bytes → put now (k * page_bytes) bytes place ≡ empty_contents place
+  first_more so_far here place low =
+      let start : k * page_bytes ≡ 0 + k * page_bytes = omega arith in
+      let moved : (p : ℕ) → 0 + p ≡ p = λ p. omega arith in
+      (λ i. put now (start i) bytes (sym (moved place) i))
+      ∙ page_more_from 0 now k bytes long (λ p less. ap now (moved p) ∙ so_far p less) here place low
 
-pub header_more : (now next : Image) (page : ℕ) → now ≡ puts (first_headers page) zeros → next ≡ put now (page * page_bytes) (header_bytes (first_header page)) → next ≡ puts (first_headers (suc page)) zeros
-header_more now next page is more =
-    let range : Range = record { page = page; at = 0; bytes = header_bytes (first_header page) } in
-    let start : page * page_bytes ≡ page * page_bytes + 0 = omega arith in
-    more
-    ∙ (λ i. put (is i) (start i) (header_bytes (first_header page)))
-    ∙ sym (puts_append (first_headers page) (range ∷ []) zeros)
-
-pub made : (now next : Image) → now ≡ puts (first_headers first_fresh) zeros → next ≡ put now 72 (0 ∷ 0 ∷ 0 ∷ 16 ∷ []) → next ≡ empty_contents
-unfolding empty_contents
-made now next is more =
-    more ∙ (λ i. put (is i) 72 (0 ∷ 0 ∷ 0 ∷ 16 ∷ [])) ∙ sym (puts_append (first_headers first_fresh) (fresh_range ∷ []) zeros)
-
--- the first bytes of a page whose header was put
-pub front_is : (bytes : List ℕ) (old : Image) (h : Header) → 32 ≤ length bytes → ((place : ℕ) → image_of bytes place ≡ put old 0 (header_bytes h) place) → take 32 bytes ≡ header_bytes h
-front_is bytes old h long is =
-    piece_slice bytes 0 32 (omega (arith, long))
-    ∙ slice_agree (image_of bytes) (put old 0 (header_bytes h)) 0 32 (λ place low high. is place)
-    ∙ slice_put old 0 (header_bytes h)
+  -- and nothing behind it
+  pub none_behind : ((place : ℕ) → k * page_bytes ≤ place → now place ≡ 0) → (place : ℕ) → (k + 1) * page_bytes ≤ place → put now (k * page_bytes) bytes place ≡ 0
+  none_behind so_far place behind =
+      put_above now (k * page_bytes) bytes place (omega (arith, long, behind)) ∙ so_far place (omega (arith, behind))

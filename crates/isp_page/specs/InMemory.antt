@@ -1,7 +1,7 @@
 -- Pages in memory.
 use Rattle.std.specs.Prelude.{ℕ, List, [], Result, true, ⊤}
 use Rattle.isp_page.specs.State.{FileShape, MiniTransaction, none_begun}
-use Rattle.isp_page.specs.Steps.{TellsBy}
+use Rattle.isp_page.specs.Steps.{PrintsBy}
 use Rattle.isp_page.specs.declared.fault.StoreFault.{StoreFault}
 
 pub record MemState : Type 0 where
@@ -26,5 +26,5 @@ new_pages pages fanout room bytes = record {
 }
 
 -- pages in memory, which leave nothing at a stop, tell this piece
-abbrev pub TellsInMemory : List ℕ → MemState → MemState → Result ⊤ StoreFault → Type 0
-TellsInMemory = TellsBy ⊤ (λ m. m.shape) (λ m. m.printed) (λ m left. ⊥) (λ m. 0) (λ m t left told. ⊥) (λ m. 0) (λ m. m.print_faults) (λ m. true)
+abbrev pub PrintsInMemory : List ℕ → MemState → MemState → Result ⊤ StoreFault → Type 0
+PrintsInMemory = PrintsBy ⊤ (λ m. m.shape) (λ m. m.printed) (λ m left. ⊥) (λ m. 0) (λ m t left printed. ⊥) (λ m. 0) (λ m. m.print_faults) (λ m. true)

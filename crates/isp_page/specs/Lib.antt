@@ -1,6 +1,5 @@
 pub mod Calls
 pub mod Differences
-pub mod HeadValues
 pub mod InMemory
 pub mod State
 pub mod Steps

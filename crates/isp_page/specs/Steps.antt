@@ -1,5 +1,5 @@
 -- What a call of a store of pages leaves alone, in one word each, over the facts of any store. A moment is what a stop leaves:
--- an image of the disk, with what was told by then. `Calls` has the words at a bound `P: Pages`.
+-- an image of the disk, with what was printed by then. `Calls` has the words at a bound `P: Pages`.
 use Rattle.std.specs.Prelude.{◌≡◌, ◌⊎◌, ℕ, ◌≤◌, Bool, true, List, Result, Ok, OnOk, IfErr, ⊤}
 use Rattle.isp_disk.specs.Moments.{Image}
 use Rattle.isp_disk.specs.Outside.{HasCause, Prints, PrintsPart, Rose}
@@ -47,15 +47,15 @@ pub record IsLeft (may : Contents → Type 0) (shape : FileShape) (image : Image
   pub fanout : fanout_in image ≡ shape.fanout
   pub may_be : may contents
 
--- such an image, and nothing was told meanwhile
-pub record LeftAs (may : Contents → Type 0) (shape : FileShape) (told_before : List ℕ) (image : Image) (told : List ℕ) : Type 0 where
+-- such an image, and nothing was printed meanwhile
+pub record LeftAs (may : Contents → Type 0) (shape : FileShape) (printed_before : List ℕ) (image : Image) (printed : List ℕ) : Type 0 where
   pub left : IsLeft may shape image
-  pub silent : told ≡ told_before
+  pub silent : printed ≡ printed_before
 
--- such an image, and of a piece that is told the first bytes were told, and no others
-pub record LeftTelling (may : Contents → Type 0) (shape : FileShape) (told_before piece : List ℕ) (image : Image) (told : List ℕ) : Type 0 where
+-- such an image, and of a piece that is printed the first bytes were printed, and no others
+pub record LeftPrinting (may : Contents → Type 0) (shape : FileShape) (printed_before piece : List ℕ) (image : Image) (printed : List ℕ) : Type 0 where
   pub left : IsLeft may shape image
-  pub part : PrintsPart told_before piece told
+  pub part : PrintsPart printed_before piece printed
 
 -- what might be left before, or what was added
 abbrev pub Or : (Contents → Type 0) → (Contents → Type 0) → Contents → Type 0
@@ -74,18 +74,18 @@ LeavesAlone contents can = (left : Contents) → can left → left ≡ contents
 -- Time goes on: each moment since a time before the call was one before it, or has this property.
 pub record Passes {S : Type 0} (clock : S → ℕ) (left_since : S → ℕ → Image → List ℕ → Type 0) (old new : S) (Had : Image → List ℕ → Type 0) : Type 0 where
   pub onward : clock old ≤ clock new
-  pub moments : (t : ℕ) (image : Image) (told : List ℕ) → t ≤ clock old → left_since new t image told → left_since old t image told ⊎ Had image told
+  pub moments : (t : ℕ) (image : Image) (printed : List ℕ) → t ≤ clock old → left_since new t image printed → left_since old t image printed ⊎ Had image printed
 
 -- how a call ended that has no result
 abbrev pub done : Result ⊤ StoreFault
 done = Ok tt
 
-module _ {S : Type 0} (tells : Type 0) (shape : S → FileShape) (told : S → List ℕ) (may_leave : S → Contents → Type 0)
+module _ {S : Type 0} (tells : Type 0) (shape : S → FileShape) (printed : S → List ℕ) (may_leave : S → Contents → Type 0)
     (clock : S → ℕ) (left_since : S → ℕ → Image → List ℕ → Type 0) (disk_faults print_faults : S → ℕ) (usable : S → Bool) where
-  -- what stays at every call but a `tell`, and why it fails
+  -- what stays at every call but a `print`, and why it fails
   pub record KeepsBy {T E : Type 0} (Fails : ℕ → ℕ → Bool → E → Type 0) (old new : S) (result : Result T E) : Type 0 where
     pub same_shape : shape new ≡ shape old
-    pub silent : told new ≡ told old
+    pub silent : printed new ≡ printed old
     pub printer : print_faults new ≡ print_faults old
     pub later : disk_faults old ≤ disk_faults new
     pub goes_on : OnOk result (GoesOn (disk_faults old) (disk_faults new) (usable new))
@@ -95,13 +95,13 @@ module _ {S : Type 0} (tells : Type 0) (shape : S → FileShape) (told : S → L
   pub record StepsBy {T E : Type 0} (Fails : ℕ → ℕ → Bool → E → Type 0) (old new : S) (result : Result T E) : Type 0 where
     pub keeps : KeepsBy Fails old new result
     pub stops : tells → AddsNone (may_leave old) (may_leave new)
-    pub time : tells → Passes clock left_since old new (LeftAs (may_leave old) (shape old) (told old))
+    pub time : tells → Passes clock left_since old new (LeftAs (may_leave old) (shape old) (printed old))
 
   -- one that adds contents with this property alone
   pub record MakesBy {T E : Type 0} (Fails : ℕ → ℕ → Bool → E → Type 0) (Added : Contents → Type 0) (old new : S) (result : Result T E) : Type 0 where
     pub keeps : KeepsBy Fails old new result
     pub stops : tells → Adds Added (may_leave old) (may_leave new)
-    pub time : tells → Passes clock left_since old new (LeftAs (Or (may_leave old) Added) (shape old) (told old))
+    pub time : tells → Passes clock left_since old new (LeftAs (Or (may_leave old) Added) (shape old) (printed old))
 
   -- one that adds nothing, and behind which a stop leaves these contents alone
   pub record FlushesBy {T E : Type 0} (Fails : ℕ → ℕ → Bool → E → Type 0) (contents : Contents) (old new : S) (result : Result T E) : Type 0 where
@@ -109,12 +109,12 @@ module _ {S : Type 0} (tells : Type 0) (shape : S → FileShape) (told : S → L
     pub alone : tells → OnOk result (LeavesAlone contents (may_leave new))
 
   -- A call that tells this piece. It fails by the printer alone, where the printer's count rose, and can be used afterwards.
-  pub record TellsBy {T : Type 0} (piece : List ℕ) (old new : S) (result : Result T StoreFault) : Type 0 where
+  pub record PrintsBy {T : Type 0} (piece : List ℕ) (old new : S) (result : Result T StoreFault) : Type 0 where
     pub same_shape : shape new ≡ shape old
-    pub printed : tells → Prints (told old) piece (told new) result
+    pub prints : tells → Prints (printed old) piece (printed new) result
     pub disk : disk_faults new ≡ disk_faults old
     pub cause : HasCause (print_faults old) (print_faults new) result
     pub by_print : IfErr result (λ fault. fault ≡ Print)
     pub can : usable new ≡ true
     pub stops : tells → AddsNone (may_leave old) (may_leave new)
-    pub time : tells → Passes clock left_since old new (LeftTelling (may_leave old) (shape old) (told old) piece)
+    pub time : tells → Passes clock left_since old new (LeftPrinting (may_leave old) (shape old) (printed old) piece)

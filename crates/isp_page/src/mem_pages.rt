@@ -4,34 +4,17 @@ ghost use Rattle.isp_disk.specs.InMemory.{counted};
 ghost use Rattle.isp_disk.specs.Moments.{image_of, put, slice};
 ghost use Rattle.isp_format.specs.Control.{IsFanout, IsPages};
 ghost use Rattle.isp_disk.specs.Outside.{HasCause};
-ghost use Rattle.isp_format.specs.Empty.{empty_contents, first_header, first_headers, first_kind};
-ghost use Rattle.isp_format.specs.Header.{header_bytes};
-ghost use Rattle.isp_format.specs.Ranges.{page_bytes, page_of, puts};
+ghost use Rattle.isp_format.specs.Empty.{empty_contents, first_fresh};
+ghost use Rattle.isp_format.specs.Ranges.{page_bytes, page_of};
 ghost use Rattle.isp_page.specs.State.{FileShape, MiniTransaction, is_among, most_changed, with_page};
-ghost use Rattle.isp_page.specs.HeadValues.{header_in};
-ghost use Rattle.isp_page.specs.InMemory.{MemState, TellsInMemory, new_pages};
+ghost use Rattle.isp_page.specs.InMemory.{MemState, PrintsInMemory, new_pages};
 ghost use Rattle.isp_page.specs.declared.fault.StoreFault.TheVariants.{Print};
 
 use crate::fault::StoreFault;
-use crate::header::Head;
-use crate::heads::set_head;
-use crate::page::{PAGE_BYTES, Page};
-use crate::pages::Pages;
-use isp_base::PageNo;
+use crate::pages::{MOST_CHANGED, Pages};
+use isp_format::{FIRST_FRESH, PAGE_BYTES, Page, PageNo, first_page};
 use std::alloc::{AllocError, Global};
 use std::marker::Model;
-
-/// How many pages a mini-transaction may change.
-const MOST_CHANGED: usize = 48;
-
-/// How many bytes a header has.
-const HEADER_BYTES: usize = 32;
-
-/// How many pages every file has in use, which is the first page never used.
-const FIRST_FRESH: u32 = 16;
-
-/// Where page 0 has the number of the first page never used.
-const FRESH_PLACE: usize = 72;
 
 /// A store of pages in memory. A stop leaves nothing of it; its one fault is a line that passes the room for printed
 /// bytes.
@@ -83,7 +66,7 @@ impl MemPages {
         })
     }
 
-    /// The bytes that were told so far.
+    /// The bytes that were printed so far.
     pub fn printed(&self) -> &[u8]
         ensures { result.now ≡ self.now.printed }
     {
@@ -142,50 +125,21 @@ fn note(changed: &mut Vec<u32>, page: u32)
     }
 }
 
-// The kind of one of the pages that every file has.
-fn first_kind(page: u32) -> u8
-    ensures { result ≡ first_kind page }
-{
-    match page {
-        0 => 1,
-        1 => 2,
-        _ => 3,
-    }
-}
-
-// The header of one of the pages that every file has.
-fn first_head(page: u32) -> Head
-    ensures { header_in result ≡ first_header page }
-{
-    Head {
-        kind: first_kind(page),
-        level: 0,
-        count: 0,
-        owner: 0,
-        next: PageNo(0),
-        prev: PageNo(0),
-        ssn: 0,
-        own: PageNo(page),
-        used: 0,
-    }
-}
-
-// Puts the header of one of the pages that every file has.
-fn put_first_header(bytes: &mut Vec<u8>, page: u32)
-    requires { page * page_bytes + page_bytes ≤ length bytes.old.items }
+// Puts one of the pages that every file has.
+fn put_first_page(bytes: &mut Vec<u8>, page: u32)
+    requires first { page < first_fresh }
+    requires inside { page * page_bytes + page_bytes ≤ length bytes.old.items }
+    requires before { (place : ℕ) → place < page * page_bytes
+        → image_of bytes.old.items place ≡ empty_contents place }
+    requires behind { (place : ℕ) → page * page_bytes ≤ place → image_of bytes.old.items place ≡ 0 }
     ensures size { length bytes.new.items ≡ length bytes.old.items }
-    ensures put { (place : ℕ) → image_of bytes.new.items place
-        ≡ put (image_of bytes.old.items) (page * page_bytes) (header_bytes (first_header page)) place }
+    ensures before { (place : ℕ) → place < (page + 1) * page_bytes
+        → image_of bytes.new.items place ≡ empty_contents place }
+    ensures behind { (place : ℕ) → (page + 1) * page_bytes ≤ place
+        → image_of bytes.new.items place ≡ 0 }
 {
-    let mut first = Page {
-        bytes: [0; PAGE_BYTES],
-    };
-    set_head(&mut first, &first_head(page));
-    put_over(
-        bytes,
-        page as usize * PAGE_BYTES,
-        &first.bytes[..HEADER_BYTES],
-    );
+    let first = first_page(page);
+    put_over(bytes, page as usize * PAGE_BYTES, &first.bytes);
 }
 
 // The bytes of all pages of an empty file.
@@ -197,9 +151,8 @@ fn empty_bytes(alloc: Global, pages: u32) -> Result<Vec<u8>, AllocError>
 {
     let mut bytes = vec![in alloc; 0u8; pages as usize * PAGE_BYTES]?;
     for page in 0..FIRST_FRESH {
-        put_first_header(&mut bytes, page);
+        put_first_page(&mut bytes, page);
     }
-    put_over(&mut bytes, FRESH_PLACE, &[0, 0, 0, FIRST_FRESH as u8]);
     Ok(bytes)
 }
 
@@ -208,13 +161,13 @@ impl Pages for MemPages {
 
     ghost contents = { λ m. image_of m.bytes };
 
-    ghost told = { λ m. m.printed };
+    ghost printed = { λ m. m.printed };
 
     ghost may_leave = { λ m left. ⊥ };
 
     ghost clock = { λ m. 0 };
 
-    ghost left_since = { λ m t left told. ⊥ };
+    ghost left_since = { λ m t left printed. ⊥ };
 
     ghost shape = { λ m. m.shape };
 
@@ -268,7 +221,7 @@ impl Pages for MemPages {
         Ok(0)
     }
 
-    fn tell(&mut self, line: &[u8]) -> Result<(), StoreFault>
+    fn print(&mut self, line: &[u8]) -> Result<(), StoreFault>
         ensures done { is_ok result ≡ nat_le (length line.now) self.old.room }
         ensures whole { OnOk result (self.new ≡ record self.old {
           printed = self.old.printed ++ line.now;
@@ -277,7 +230,7 @@ impl Pages for MemPages {
         ensures refused { OnErr result (self.new ≡ record self.old {
           print_faults = counted self.old.print_faults;
         }) }
-        ensures told { TellsInMemory line.now self.old self.new result }
+        ensures printed { PrintsInMemory line.now self.old self.new result }
         ensures contents { image_of self.new.bytes ≡ image_of self.old.bytes }
         ensures mini { self.new.mini ≡ self.old.mini }
         ensures dirty { ◌≡◌ {A = ℕ} 0 0 }

@@ -2,26 +2,29 @@
 ghost use Rattle.std.specs.Prelude.{◌≡◌, ◌+◌, ◌*◌, ◌<◌, ◌≤◌, Bool, List, ℕ, true, false, length, min, IfErr, IfOk, OnOk};
 ghost use Rattle.isp_disk.specs.Moments.{Image, put};
 ghost use Rattle.isp_format.specs.Control.{IsFanout, IsPages};
+ghost use Rattle.isp_format.specs.Doublewrite.{most_copies};
 ghost use Rattle.isp_format.specs.Ranges.{Contents, page_bytes, page_of};
 ghost use Rattle.isp_page.specs.State.{FileShape, HasRoom, MiniTransaction, just_begun, none_begun, with_change};
-ghost use Rattle.isp_page.specs.Steps.{FailsOnPages, FlushesBy, IsNoDamage, MakesBy, StepsBy, TellsBy, done};
+ghost use Rattle.isp_page.specs.Steps.{FailsOnPages, FlushesBy, IsNoDamage, MakesBy, StepsBy, PrintsBy, done};
 
 use crate::fault::StoreFault;
-use crate::page::Page;
-use isp_base::PageNo;
+use isp_format::{Page, PageNo};
+
+/// How many pages a mini-transaction may change.
+pub const MOST_CHANGED: usize = 48;
 
 /// A store of pages. Changes are made in mini-transactions, of which one at a time is begun; a stop leaves the contents
 /// after some of the finished ones, from the first on, all flushed ones among them. After a call that failed by the disk
 /// it isn't used again.
 pub trait Pages {
-    /// That what is read, written and told is said of its bytes: a fact of the type, and not of a value.
+    /// That what is read, written and printed is said of its bytes: a fact of the type, and not of a value.
     ghost tells: { Type 0 };
 
     /// The contents of all pages now. They mean nothing where `tells` doesn't hold.
     ghost contents: { Self → Contents };
 
-    /// The bytes that were told. They mean nothing where `tells` doesn't hold.
-    ghost told: { Self → List ℕ };
+    /// The bytes that were printed. They mean nothing where `tells` doesn't hold.
+    ghost printed: { Self → List ℕ };
 
     /// The contents that a stop now may leave.
     ghost may_leave: { Self → Contents → Type 0 };
@@ -29,7 +32,7 @@ pub trait Pages {
     /// The time, as a number that doesn't fall.
     ghost clock: { Self → ℕ };
 
-    /// What a stop since that time might have left, within a call or between two: an image of the disk, and what was told
+    /// What a stop since that time might have left, within a call or between two: an image of the disk, and what was printed
     /// by then.
     ghost left_since: { Self → ℕ → Image → List ℕ → Type 0 };
 
@@ -65,7 +68,7 @@ pub trait Pages {
     fn begin(&mut self)
         requires usable { usable self.old ≡ true }
         requires none { (mini self.old).is_begun ≡ false }
-        ensures kept { StepsBy tells shape told may_leave clock left_since disk_faults print_faults
+        ensures kept { StepsBy tells shape printed may_leave clock left_since disk_faults print_faults
             usable FailsOnPages self.old self.new done }
         ensures contents { tells → contents self.new ≡ contents self.old }
         ensures mini { mini self.new ≡ just_begun }
@@ -75,7 +78,7 @@ pub trait Pages {
     fn read(&mut self, p: PageNo, into: &mut Page) -> Result<(), StoreFault>
         requires usable { usable self.old ≡ true }
         requires page { p.0 < (shape self.old).pages }
-        ensures kept { StepsBy tells shape told may_leave clock left_since disk_faults print_faults
+        ensures kept { StepsBy tells shape printed may_leave clock left_since disk_faults print_faults
             usable FailsOnPages self.old self.new result }
         ensures sound { IfErr result IsNoDamage }
         ensures page { tells → OnOk result (into.new.bytes ≡ page_of (contents self.old) p.0) }
@@ -90,7 +93,7 @@ pub trait Pages {
         requires inside { at + length bytes.now ≤ page_bytes }
         requires begun { (mini self.old).is_begun ≡ true }
         requires room { HasRoom p.0 (mini self.old) }
-        ensures kept { StepsBy tells shape told may_leave clock left_since disk_faults print_faults
+        ensures kept { StepsBy tells shape printed may_leave clock left_since disk_faults print_faults
             usable FailsOnPages self.old self.new result }
         ensures sound { IfErr result IsNoDamage }
         ensures contents { tells → OnOk result (contents self.new
@@ -101,7 +104,7 @@ pub trait Pages {
     fn finish(&mut self) -> Result<(), StoreFault>
         requires usable { usable self.old ≡ true }
         requires begun { (mini self.old).is_begun ≡ true }
-        ensures made { MakesBy tells shape told may_leave clock left_since disk_faults print_faults
+        ensures made { MakesBy tells shape printed may_leave clock left_since disk_faults print_faults
             usable FailsOnPages (λ left. left ≡ contents self.old) self.old self.new result }
         ensures sound { IfErr result IsNoDamage }
         ensures contents { tells → OnOk result (contents self.new ≡ contents self.old) }
@@ -112,7 +115,7 @@ pub trait Pages {
     fn flush(&mut self) -> Result<(), StoreFault>
         requires usable { usable self.old ≡ true }
         requires none { (mini self.old).is_begun ≡ false }
-        ensures flushed { FlushesBy tells shape told may_leave clock left_since disk_faults
+        ensures flushed { FlushesBy tells shape printed may_leave clock left_since disk_faults
             print_faults usable FailsOnPages (contents self.new) self.old self.new result }
         ensures sound { IfErr result IsNoDamage }
         ensures contents { tells → OnOk result (contents self.new ≡ contents self.old) }
@@ -123,18 +126,18 @@ pub trait Pages {
     fn clean_some(&mut self) -> Result<u32, StoreFault>
         requires usable { usable self.old ≡ true }
         requires none { (mini self.old).is_begun ≡ false }
-        ensures kept { StepsBy tells shape told may_leave clock left_since disk_faults print_faults
+        ensures kept { StepsBy tells shape printed may_leave clock left_since disk_faults print_faults
             usable FailsOnPages self.old self.new result }
         ensures sound { IfErr result IsNoDamage }
-        ensures count { IfOk result (λ cleaned. cleaned ≡ min 64 (dirty self.old)) }
+        ensures count { IfOk result (λ cleaned. cleaned ≡ min most_copies (dirty self.old)) }
         ensures dirty { IfOk result (λ cleaned. dirty self.new + cleaned ≡ dirty self.old) }
         ensures contents { tells → OnOk result (contents self.new ≡ contents self.old) }
         ensures mini { OnOk result (mini self.new ≡ mini self.old) };
 
-    /// Prints the bytes. Where it fails, and at a stop within it, a part of them was told, from the first byte on.
-    fn tell(&mut self, line: &[u8]) -> Result<(), StoreFault>
+    /// Prints the bytes. Where it fails, and at a stop within it, a part of them was printed, from the first byte on.
+    fn print(&mut self, line: &[u8]) -> Result<(), StoreFault>
         requires usable { usable self.old ≡ true }
-        ensures told { TellsBy tells shape told may_leave clock left_since disk_faults print_faults
+        ensures printed { PrintsBy tells shape printed may_leave clock left_since disk_faults print_faults
             usable line.now self.old self.new result }
         ensures contents { tells → contents self.new ≡ contents self.old }
         ensures mini { mini self.new ≡ mini self.old }

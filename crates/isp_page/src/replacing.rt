@@ -8,9 +8,8 @@ ghost use Rattle.isp_page.specs.Steps.{IsNoDamage};
 ghost use Rattle.isp_page.specs.Touched.{Grows, KeepsPages, is_page};
 
 use crate::fault::StoreFault;
-use crate::page::{PAGE_BYTES, Page};
 use crate::pages::Pages;
-use isp_base::PageNo;
+use isp_format::{PAGE_BYTES, Page, PageNo};
 
 /// Makes the page these bytes, which stood as `old`: the least range that differs is changed, and nothing where none does.
 pub fn replace<P: Pages>(pages: &mut P, p: PageNo, old: &Page, new: &Page) -> Result<(), StoreFault>

@@ -9,11 +9,9 @@ ghost use Rattle.isp_page.specs.Steps.{IsNoDamage, IsNoDamageOrLacks, LeavesAlon
 ghost use Rattle.isp_page.specs.Touched.{Grows, KeepsPages, is_page};
 
 use crate::fault::{Fault, StoreFault};
-use crate::heads::head;
-use crate::page::Page;
 use crate::pages::Pages;
 use crate::replacing::replace;
-use isp_base::PageNo;
+use isp_format::{Page, PageNo, head};
 use std::alloc::Global;
 
 /// Reads two pages.

@@ -1,4 +1,4 @@
-pub mod ChainLaws
-pub mod PoolLaws
-pub mod OrderLaws
+mod ChainLaws
+mod PoolLaws
+mod OrderLaws
 pub mod StateLaws

@@ -7,7 +7,8 @@ use Rattle.isp_recency.specs.Recent.{has, last_where}
 use Rattle.isp_recency.proofs.RecentLaws.{last_passes, none_passes, last_agrees}
 use Rattle.isp_pool.specs.declared.frames.Frame.{Frame}
 use Rattle.isp_pool.specs.Frames.{frame_in, is_held, is_dirty, is_pinned, is_unpinned, is_cleanable, IsFirstFree}
-use Rattle.isp_pool.proofs.PoolLaws.{flag_at, held_below}
+use Rattle.isp_pool.proofs.PoolLaws.{flag_at}
+use Rattle.isp_pool.proofs.StateLaws.{held_below}
 
 -- the first free frame
 held_some : (o : Option Frame) → is_held o ≡ true → is_none o ≡ false

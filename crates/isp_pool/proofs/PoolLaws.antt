@@ -1,30 +1,18 @@
 -- What a pool keeps beside its frames, after each write.
-use Rattle.std.proofs.Common.{◌≡◌, ◌≢◌, ◌∙◌, ◌+◌, ◌<◌, ◌≤◌, ◌&&◌, Bool, true, false, not, cond, List, [], ◌∷◌, ◌++◌, ℕ, zero, suc, Option, Some, None, refl, sym, ap, subst, arith, ⊎_elim, length, get_or, set, length-set, length-append, map, take, drop, replicate, filter}
+use Rattle.std.proofs.Common.{◌≡◌, ◌≢◌, ◌∙◌, ◌+◌, ◌<◌, ◌≤◌, ◌&&◌, Bool, true, false, not, cond, List, [], ◌∷◌, ℕ, zero, suc, Option, Some, None, refl, sym, ap, subst, arith, ⊎_elim, length, get_or, set, length-set, map, replicate, filter}
 use Rattle.std.specs.List.{count_by, sum_by}
 use Rattle.std.specs.Option.{option_map}
-use Rattle.std.proofs.lemmas.Bool.{false≢true, cases_eq, cases_lt, cases_Bool, cond-true, cond-false}
-use Rattle.std.proofs.lemmas.List.{get_or_past, get_or-set_same, get_or-set_other, set-get_or, set-set, map-set, length-take-le, length-drop, length-replicate}
+use Rattle.std.proofs.lemmas.Bool.{false≢true, cases_eq, cases_Bool, cond-true, cond-false}
+use Rattle.std.proofs.lemmas.List.{get_or-set_same, get_or-set_other, set-get_or, set-set, map-set, length-replicate}
 use Rattle.std.proofs.lemmas.List.Sums.{sum_by-set, count_by-le-length}
-use Rattle.isp_page.specs.declared.page.Page.{Page}
+use Rattle.isp_format.specs.declared.page.Page.{Page}
 use Rattle.isp_base.specs.declared.page_no.PageNo.{PageNo}
 use Rattle.isp_recency.specs.Recent.{RecencyList, has, without}
 use Rattle.isp_recency.proofs.RecentLaws.{has_first, has_later, has_without, has_cases}
 use Rattle.isp_pool.specs.declared.frames.Frame.{Frame}
 use Rattle.isp_pool.specs.Frames.{PoolState, frame_in, frame_at, is_held, page_of, is_dirty, is_pinned, is_unpinned, is_cleanable, edited, with_frame, changed, overwritten, fresh_frame, IsFirstFree, one_if}
 use Rattle.isp_pool.specs.Kept.{Keeps}
-
--- a frame that holds a page is one of them, and what it holds
-pub held_is : (o : Option Frame) → is_held o ≡ true → (f : Frame) × (o ≡ Some f)
-held_is None h = absurd (false≢true h)
-held_is (Some f) h = (f, refl)
-
-pub held_below : (frames : List (Option Frame)) (i : ℕ) → is_held (frame_in frames i) ≡ true → i < length frames
-held_below frames i h =
-    ⊎_elim (λ lt. lt) (λ past. absurd (false≢true (sym (ap is_held (get_or_past frames i None past)) ∙ h))) (cases_lt i (length frames))
-
-pub held_from_page : (o : Option Frame) (p : PageNo) → page_of o ≡ Some p → is_held o ≡ true
-held_from_page None p e = cc
-held_from_page (Some f) p e = refl
+use Rattle.isp_pool.proofs.StateLaws.{held_below, held_is, length-overwritten}
 
 -- flags by frame: the test of the frame itself, also past the end
 pub flag_at : (test : Option Frame → Bool) → test None ≡ false → (frames : List (Option Frame)) (i : ℕ) → get_or (map test frames) i false ≡ test (frame_in frames i)
@@ -125,16 +113,6 @@ marked frames frames2 pages recency unpinned cleanable dirty fresh k i d n dirty
     subst (λ fs. Keeps fs pages recency (set unpinned i (not n)) (set cleanable i (d && not n)) dirty2 fresh) (sym by)
     (kept_page frames pages recency unpinned cleanable dirty fresh k i one.0 f dirty2 one.1 refl (k.whole i one.0 one.1)
     (ap (λ o. dirty2 + one_if (is_dirty o)) (sym one.1) ∙ count))
-
-pub length-overwritten : (xs : List ℕ) (at : ℕ) (bytes : List ℕ) → at + length bytes ≤ length xs → length (overwritten xs at bytes) ≡ length xs
-length-overwritten xs at bytes le =
-    omega (
-      arith,
-      length-append (take at xs) (bytes ++ drop (at + length bytes) xs),
-      length-append bytes (drop (at + length bytes) xs),
-      length-take-le at xs (omega arith),
-      length-drop (at + length bytes) xs,
-    )
 
 pub written : (frames frames2 : List (Option Frame)) (pages : List (Option PageNo)) (recency : RecencyList) (unpinned cleanable : List Bool) (dirty fresh : ℕ)
     → Keeps frames pages recency unpinned cleanable dirty fresh

@@ -1,13 +1,14 @@
 -- Laws on what the calls of a pool leave, frame by frame and byte by byte, for those who reason from its contracts.
-use Rattle.std.proofs.Common.{◌≡◌, ◌∙◌, ◌+◌, ◌-◌, ◌<◌, ◌≤◌, false, cond, List, [], ◌∷◌, ◌++◌, ℕ, suc, Option, Some, None, refl, ap, arith, length, get_or, set, length-set, take, drop}
+use Rattle.std.proofs.Common.{◌≡◌, ◌∙◌, ◌+◌, ◌-◌, ◌<◌, ◌≤◌, false, cond, List, [], ◌∷◌, ◌++◌, ℕ, suc, Option, Some, None, refl, ap, arith, length, get_or, set, length-set, take, drop, true, sym, ⊎_elim, length-append}
 use Rattle.std.specs.List.{count_by}
 use Rattle.std.specs.Option.{option_map}
-use Rattle.std.proofs.lemmas.List.{get_or-set_same, get_or-set_other, get_or_append_left, get_or-append_right, get_or-take, get_or-drop, length-take-le}
+use Rattle.std.proofs.lemmas.Bool.{cases_lt, false≢true}
+use Rattle.std.proofs.lemmas.List.{get_or_past, length-drop, get_or-set_same, get_or-set_other, get_or_append_left, get_or-append_right, get_or-take, get_or-drop, length-take-le}
 use Rattle.std.proofs.lemmas.List.Sums.{sum_by-set, sum_by-cons}
-use Rattle.isp_page.specs.declared.page.Page.{Page}
+use Rattle.isp_format.specs.declared.page.Page.{Page}
 use Rattle.isp_base.specs.declared.page_no.PageNo.{PageNo}
 use Rattle.isp_pool.specs.declared.frames.Frame.{Frame}
-use Rattle.isp_pool.specs.Frames.{PoolState, frame_in, frame_at, is_dirty, with_frame, loaded, fresh_frame, overwritten, one_if}
+use Rattle.isp_pool.specs.Frames.{PoolState, frame_in, frame_at, is_dirty, is_held, page_of, with_frame, loaded, fresh_frame, overwritten, one_if}
 
 -- the frame that was written, the others, and their count
 pub loaded_here : (s : PoolState) (i : ℕ) (p : PageNo) (page : Page) → i < length s.frames → frame_at (loaded s i p page) i ≡ Some (fresh_frame p page)
@@ -56,3 +57,26 @@ none_dirty [] clean = refl
 none_dirty (o ∷ os) clean =
     let first : cond (is_dirty o) 1 0 ≡ 0 = ap (λ b. cond b 1 0) (clean 0) in
     sum_by-cons (λ f. cond (is_dirty f) 1 0) o os ∙ ap (λ n. n + count_by is_dirty os) first ∙ ap (λ n. 0 + n) (none_dirty os (λ i. clean (suc i)))
+
+-- a frame that holds a page is one of them, and what it holds
+pub held_is : (o : Option Frame) → is_held o ≡ true → (f : Frame) × (o ≡ Some f)
+held_is None h = absurd (false≢true h)
+held_is (Some f) h = (f, refl)
+
+pub held_below : (frames : List (Option Frame)) (i : ℕ) → is_held (frame_in frames i) ≡ true → i < length frames
+held_below frames i h =
+    ⊎_elim (λ lt. lt) (λ past. absurd (false≢true (sym (ap is_held (get_or_past frames i None past)) ∙ h))) (cases_lt i (length frames))
+
+pub held_from_page : (o : Option Frame) (p : PageNo) → page_of o ≡ Some p → is_held o ≡ true
+held_from_page None p e = cc
+held_from_page (Some f) p e = refl
+
+pub length-overwritten : (xs : List ℕ) (at : ℕ) (bytes : List ℕ) → at + length bytes ≤ length xs → length (overwritten xs at bytes) ≡ length xs
+length-overwritten xs at bytes le =
+    omega (
+      arith,
+      length-append (take at xs) (bytes ++ drop (at + length bytes) xs),
+      length-append bytes (drop (at + length bytes) xs),
+      length-take-le at xs (omega arith),
+      length-drop (at + length bytes) xs,
+    )

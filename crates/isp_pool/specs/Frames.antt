@@ -2,7 +2,8 @@
 use Rattle.std.specs.Prelude.{ℕ, ◌≡◌, ◌+◌, ◌<◌, ◌≤◌, Bool, true, false, not, ◌&&◌, cond, Option, Some, None, List, ◌∷◌, ◌++◌, take, drop, length, nat_eq, slice_index_or, slice_set, position, is_none}
 use Rattle.std.specs.List.{IsDistinct}
 use Rattle.std.specs.Option.{option_map, option_or}
-use Rattle.isp_page.specs.declared.page.Page.{Page}
+use Rattle.isp_format.specs.Ranges.{page_bytes}
+use Rattle.isp_format.specs.declared.page.Page.{Page}
 use Rattle.isp_base.specs.declared.page_no.PageNo.{PageNo}
 use Rattle.isp_recency.specs.Recent.{has, without, last_where}
 use Rattle.isp_pool.specs.declared.frames.Frame.{Frame}
@@ -11,6 +12,10 @@ use Rattle.isp_pool.specs.declared.frames.Frame.{Frame}
 pub record PoolState : Type 0 where
   pub frames : List (Option Frame)
   pub recent : List ℕ
+
+-- how many frames a pool has at most
+abbrev pub most_frames : ℕ
+most_frames = 4096
 
 -- the frame of a number; past the last one there is none
 abbrev pub frame_in : List (Option Frame) → ℕ → Option Frame
@@ -97,11 +102,11 @@ victim_of s = option_or (position is_none s.frames) (last_where (λ i. is_unpinn
 -- what holds of every pool: no page stands in two frames; the order of use has each frame with a page, once; a page has its bytes
 pub record IsPool (s : PoolState) : Type 0 where
   pub least : 0 < length s.frames
-  pub most : length s.frames ≤ 4096
+  pub most : length s.frames ≤ most_frames
   pub distinct : (i j : ℕ) (p : PageNo) → page_of (frame_at s i) ≡ Some p → page_of (frame_at s j) ≡ Some p → i ≡ j
   pub recent : (i : ℕ) → has s.recent i ≡ is_held (frame_at s i)
   pub once : IsDistinct nat_eq s.recent
-  pub whole : (i : ℕ) (f : Frame) → frame_at s i ≡ Some f → length f.content.bytes ≡ 4096
+  pub whole : (i : ℕ) (f : Frame) → frame_at s i ≡ Some f → length f.content.bytes ≡ page_bytes
 
 -- the first free frame, or the count of frames
 pub record IsFirstFree (frames : List (Option Frame)) (at : ℕ) : Type 0 where

@@ -1,14 +1,15 @@
 //! The pool.
 
 ghost use Rattle.std.specs.Prelude.{◌≡◌, ◌≢◌, ℕ, ◌+◌, ◌<◌, ◌≤◌, ◌↔◌, Bool, true, false, not, ◌&&◌, IsTrue, IfOk, IfSome, Some, None, [], ◌∷◌, length, replicate, count_by, slice_set};
+ghost use Rattle.isp_format.specs.Ranges.{page_bytes};
 ghost use Rattle.isp_recency.specs.Recent.{has, without, last_where};
-ghost use Rattle.isp_pool.specs.Frames.{PoolState, IsPool, frame_at, page_of, content_of, is_held, is_dirty, is_pinned, is_unpinned, is_cleanable, fresh_frame, loaded, with_frame, one_if, changed, used, victim_of, HoldsPage, MayGo, MayBeCleaned, rewritten, flagged};
+ghost use Rattle.isp_pool.specs.Frames.{PoolState, IsPool, frame_at, page_of, content_of, is_held, is_dirty, is_pinned, is_unpinned, is_cleanable, most_frames, fresh_frame, loaded, with_frame, one_if, changed, used, victim_of, HoldsPage, MayGo, MayBeCleaned, rewritten, flagged};
 
 use crate::Frame;
 use crate::by_page::Chains;
 use crate::empty::all_none;
 use crate::frames::{first_free, overwrite, set_flags};
-use isp_page::{Page, PageNo};
+use isp_format::{Page, PageNo};
 use isp_recency::Recency;
 use std::alloc::{AllocError, Global};
 use std::marker::Model;
@@ -46,7 +47,7 @@ impl Pool {
     /// So many free frames, 1 to 4,096. Only this takes memory.
     pub fn new(alloc: Global, frames: usize) -> Result<Pool, AllocError>
         requires least { 0 < frames }
-        requires most { frames ≤ 4096 }
+        requires most { frames ≤ most_frames }
         ensures { IfOk result (λ p. p ≡ record { frames = replicate frames None; recent = [] }) }
     {
         let chains = Chains::new(alloc, frames)?;
@@ -126,7 +127,7 @@ impl Pool {
     /// Writes bytes into the page in a frame, from a place on. The frame is dirty then.
     pub fn change(&mut self, frame: usize, at: u16, bytes: &[u8])
         requires held { is_held (frame_at self.old frame) ≡ true }
-        requires range { at + length bytes.now ≤ 4096 }
+        requires range { at + length bytes.now ≤ page_bytes }
         ensures { self.new ≡ changed self.old frame at bytes.now }
     {
         let pinned = self.is_pinned(frame);
@@ -223,7 +224,7 @@ impl Pool {
     // Changes the bytes of a page alone.
     fn write(&mut self, frame: usize, at: usize, bytes: &[u8])
         requires held { is_held (frame_at self.old frame) ≡ true }
-        requires range { at + length bytes.now ≤ 4096 }
+        requires range { at + length bytes.now ≤ page_bytes }
         ensures { self.new ≡ with_frame self.old frame (rewritten at bytes.now) }
     {
         overwrite(&mut self.frames, frame, at, bytes);
@@ -244,7 +245,7 @@ impl Pool {
 
 fn newly_read(p: PageNo, page: &Page) -> Frame
     ensures frame { result ≡ fresh_frame p page.now }
-    ensures whole { length page.now.bytes ≡ 4096 }
+    ensures whole { length page.now.bytes ≡ page_bytes }
 {
     let bytes = page.bytes;
     Frame {
@@ -264,7 +265,7 @@ fn may_be_cleaned(dirty: bool, pinned: bool) -> bool
 // A count after one of those counted, or not, came to be so or not.
 fn recount(count: u32, was: bool, is: bool) -> u32
     requires there { was ≡ true → 0 < count }
-    requires few { count ≤ 4096 }
+    requires few { count ≤ most_frames }
     ensures { result + one_if was ≡ count + one_if is }
 {
     let others = if was { count - 1 } else { count };

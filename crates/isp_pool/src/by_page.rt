@@ -7,7 +7,7 @@ ghost use Rattle.std.specs.Prelude.{◌≡◌, ℕ, ◌%◌, ◌<◌, ◌≤◌,
 ghost use Rattle.isp_pool.specs.Chains.{in_its_chain, IsFound, IsAbove, IsLast, AreLinked, follower, start_with, links_with, IsWithin};
 
 use crate::empty::all_none;
-use isp_page::PageNo;
+use isp_base::PageNo;
 use std::alloc::{AllocError, Global};
 use std::marker::Model;
 

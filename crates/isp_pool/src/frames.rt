@@ -1,9 +1,10 @@
 //! A frame, and writes into frames.
 
 ghost use Rattle.std.specs.Prelude.{◌≡◌, ℕ, ◌+◌, ◌<◌, ◌≤◌, true, None, length, slice_index_or, slice_set};
+ghost use Rattle.isp_format.specs.Ranges.{page_bytes};
 ghost use Rattle.isp_pool.specs.Frames.{edited, flagged, frame_in, is_held, rewritten, IsFirstFree};
 
-use isp_page::{Page, PageNo};
+use isp_format::{Page, PageNo};
 
 /// What a frame holds that isn't free: a page, its bytes, whether they differ from those of the file, and whether the page has to
 /// stay.
@@ -29,7 +30,7 @@ pub(crate) fn set_flags(frames: &mut Vec<Option<Frame>>, frame: usize, dirty: bo
 // Writes bytes into a page.
 pub(crate) fn overwrite(frames: &mut Vec<Option<Frame>>, frame: usize, at: usize, bytes: &[u8])
     requires below { frame < length frames.old.items }
-    requires range { at + length bytes.now ≤ 4096 }
+    requires range { at + length bytes.now ≤ page_bytes }
     ensures { frames.new.items ≡ edited frames.old.items frame (rewritten at bytes.now) }
 {
     if let Some(held) = &mut frames[frame] {

@@ -1,2 +1,2 @@
 pub mod RecentLaws
-pub mod Places
+mod Places

@@ -9,15 +9,12 @@ use Rattle.isp_format.specs.Numbers.{bytes_of}
 use Rattle.isp_format.specs.Ranges.{Range}
 use Rattle.isp_redo.specs.Places.{IsAt}
 use Rattle.isp_redo.specs.Reading.{AreRangesAt, AreTransactionsAt, IsRangeAt, IsTransactionAt}
-use Rattle.isp_redo.specs.declared.ranges.Place.{Place}
-use Rattle.isp_redo.proofs.Positions.{batch_read, count_is, ranges_forward, size_is, transaction_forward, transactions_forward}
-
--- all of the log lies ahead of its beginning
-pub begins_at : (pages : ℕ) (log : Image) (batches : List (List Transaction)) (end : ℕ) → IsLog pages log 0 batches end → IsAt pages log (record { at = 0; left = 0; end = 0 }) (ranges_of batches)
-begins_at pages log batches end is = record { first = []; inside = []; behind = batches; mid = 0; last = end; count = refl; here = refl; rest = refl; log_is = is; ranges_are = refl }
+use Rattle.isp_redo.specs.declared.ranges.LogPlace.{LogPlace}
+use Rattle.isp_redo.proofs.PlaceLaws.{ranges_forward, transaction_forward, transactions_forward}
+use Rattle.isp_redo.proofs.Positions.{batch_read, count_is, size_is}
 
 -- places rise to the end of the body
-pub at_forward : (pages : ℕ) (log : Image) (place : Place) (ranges : List Range) → IsAt pages log place ranges → place.at ≤ place.end
+pub at_forward : (pages : ℕ) (log : Image) (place : LogPlace) (ranges : List Range) → IsAt pages log place ranges → place.at ≤ place.end
 at_forward pages log place ranges is = omega (arith, ranges_forward pages log place.at is.first is.mid is.here, transactions_forward pages log is.mid is.inside place.end is.rest)
 
 -- the parts of what lies ahead, where no range of a mini-transaction does
@@ -144,7 +141,7 @@ counts_at pages log at end count ranges less few stands is =
 -- ---- at a range
 
 -- the first range that lies ahead, and what lies ahead of the place behind it
-pub record Taken (pages : ℕ) (log : Image) (place : Place) (ranges : List Range) : Type 0 where
+pub record Taken (pages : ℕ) (log : Image) (place : LogPlace) (ranges : List Range) : Type 0 where
   pub range : Range
   pub others : List Range
   pub next : ℕ
@@ -158,7 +155,7 @@ some_first : (pages : ℕ) (log : Image) (at : ℕ) (first : List Range) (mid : 
 some_first pages log at [] mid some are = absurd (omega (arith, some))
 some_first pages log at (range ∷ others) mid some (next, is, more) = (range, others, next, is, more, refl)
 
-pub takes_at : (pages : ℕ) (log : Image) (place : Place) (ranges : List Range) → 0 < place.left → IsAt pages log place ranges → Taken pages log place ranges
+pub takes_at : (pages : ℕ) (log : Image) (place : LogPlace) (ranges : List Range) → 0 < place.left → IsAt pages log place ranges → Taken pages log place ranges
 takes_at pages log place ranges some is =
     let first = some_first pages log place.at is.first is.mid (omega (arith, some, is.count)) is.here in
     let count = is.count in

@@ -1,4 +1,5 @@
-pub mod Ahead
-pub mod Laying
-pub mod Positions
-pub mod Steps
+mod Ahead
+mod Laying
+pub mod PlaceLaws
+mod Positions
+mod Steps

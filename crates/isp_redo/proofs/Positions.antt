@@ -15,22 +15,7 @@ use Rattle.isp_format.proofs.LogWalks.{IsWalk}
 use Rattle.isp_format.proofs.Parts.{slice_cut, slice_parts}
 use Rattle.isp_format.proofs.Slices.{length-slice}
 use Rattle.isp_redo.specs.Reading.{AreRangesAt, AreTransactionsAt, IsRangeAt, IsTransactionAt}
-
--- ---- the places rise
-
-pub range_forward : (pages : ℕ) (log : Image) (at : ℕ) (range : Range) (next : ℕ) → IsRangeAt pages log at range next → at + 9 ≤ next
-range_forward pages log at range next is = omega (arith, is.behind, is.is.some)
-
-pub ranges_forward : (pages : ℕ) (log : Image) (at : ℕ) (ranges : List Range) (next : ℕ) → AreRangesAt pages log at ranges next → at ≤ next
-ranges_forward pages log at [] next is = omega (arith, is)
-ranges_forward pages log at (range ∷ ranges) next (mid, is, rest) = omega (arith, range_forward pages log at range mid is, ranges_forward pages log mid ranges next rest)
-
-pub transaction_forward : (pages : ℕ) (log : Image) (at : ℕ) (ranges : Transaction) (next : ℕ) → IsTransactionAt pages log at ranges next → at + 2 ≤ next
-transaction_forward pages log at ranges next is = ranges_forward pages log (at + 2) ranges next is.each
-
-pub transactions_forward : (pages : ℕ) (log : Image) (at : ℕ) (ts : List Transaction) (next : ℕ) → AreTransactionsAt pages log at ts next → at ≤ next
-transactions_forward pages log at [] next is = omega (arith, is)
-transactions_forward pages log at (t ∷ ts) next (mid, is, rest) = omega (arith, transaction_forward pages log at t mid is, transactions_forward pages log mid ts next rest)
+use Rattle.isp_redo.proofs.PlaceLaws.{range_forward, ranges_forward, transaction_forward, transactions_forward}
 
 -- ---- what is there is one
 

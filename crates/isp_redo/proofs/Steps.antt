@@ -2,7 +2,7 @@
 use Rattle.std.proofs.Common.{◌≡◌, ◌≢◌, ◌⊎◌, inl, inr, ⊎_elim, ◌==◌, true, false, ℕ, zero, suc, ◌+◌, ◌-◌, ◌<◌, ◌≤◌, List, [], ◌∷◌, ◌++◌, length, refl, sym, ◌∙◌, ap, subst, arith}
 use Rattle.std.proofs.lemmas.Bool.Decides.{nat_tests}
 use Rattle.isp_disk.specs.Moments.{Image, Agree, Within, in_range, slice}
-use Rattle.isp_disk.proofs.Moments.{agree_wider, agree_on}
+use Rattle.isp_disk.proofs.MomentLaws.{agree_wider, agree_on}
 use Rattle.isp_format.specs.Log.{IsBatch, IsBody, IsLog, Transaction, log_bytes, log_of, log_place}
 use Rattle.isp_format.proofs.LogWalks.{SameOn, log_same, one_more, closed, walked, walk_same, walk_ends}
 use Rattle.isp_format.proofs.Offsets.{range_within}

@@ -3,7 +3,7 @@ use Rattle.std.specs.Prelude.{◌≡◌, ◌⊎◌, ℕ, ◌+◌, List, [], ◌�
 use Rattle.isp_disk.specs.Calls.{DiskCall}
 use Rattle.isp_disk.specs.Moments.{Image, Region, Agree, LeavesOnly, Quiet, in_range, slice}
 use Rattle.isp_disk.specs.declared.world.World.{Ghosts}
-use Rattle.isp_format.specs.Log.{IsLog, Transaction, log_bytes, log_of, log_place}
+use Rattle.isp_format.specs.Log.{IsLog, Transaction, batch_head, log_bytes, log_of, log_place}
 use Rattle.isp_format.specs.Numbers.{bytes_of}
 
 -- the places of the log
@@ -13,8 +13,8 @@ in_log = in_range log_place log_bytes
 -- a length, a body and a closed gate behind the gate at a place of the disk
 pub record HasBody (image : Image) (at : ℕ) (body : List ℕ) : Type 0 where
   pub size : slice image (at + 1) 4 ≡ bytes_of 4 (length body)
-  pub stands : slice image (at + 5) (length body) ≡ body
-  pub gate : image (at + 5 + length body) ≡ 0
+  pub stands : slice image (at + batch_head) (length body) ≡ body
+  pub gate : image (at + batch_head + length body) ≡ 0
 
 -- the batches of a log, and the place of the closed gate behind them
 pub record LogState : Type 0 where
@@ -23,7 +23,7 @@ pub record LogState : Type 0 where
 
 -- these batches and one more, whose body has so many bytes
 abbrev pub with_batch : List (List Transaction) → List Transaction → ℕ → ℕ → LogState
-with_batch batches batch end size = record { batches = batches ++ batch ∷ []; end = end + 5 + size }
+with_batch batches batch end size = record { batches = batches ++ batch ∷ []; end = end + batch_head + size }
 
 -- the image has this log
 abbrev pub HasLog : ℕ → LogState → Image → Type 0

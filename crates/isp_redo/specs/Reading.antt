@@ -1,7 +1,7 @@
 -- The log as it is read, from a place on: ranges, mini-transactions and batches, each with the place behind it.
-use Rattle.std.specs.Prelude.{◌≡◌, ◌≢◌, ℕ, ◌+◌, ◌<◌, ◌≤◌, List, [], ◌∷◌, ◌++◌, length, Option, Some, None}
+use Rattle.std.specs.Prelude.{◌≡◌, ◌≢◌, ℕ, ◌+◌, ◌^◌, ◌<◌, ◌≤◌, List, [], ◌∷◌, ◌++◌, length, Option, Some, None}
 use Rattle.isp_disk.specs.Moments.{Image, slice}
-use Rattle.isp_format.specs.Log.{IsBatch, IsLog, Transaction, log_bytes}
+use Rattle.isp_format.specs.Log.{IsBatch, IsLog, Transaction, count_size, log_bytes, range_head}
 use Rattle.isp_format.specs.Numbers.{bytes_of}
 use Rattle.isp_format.specs.Ranges.{IsRange, Range}
 use Rattle.isp_redo.specs.declared.scan.Step.{Step}
@@ -9,10 +9,10 @@ use Rattle.isp_redo.specs.declared.scan.Step.TheVariants as step
 
 -- a range, and the place behind it
 pub record IsRangeAt (pages : ℕ) (log : Image) (at : ℕ) (range : Range) (next : ℕ) : Type 0 where
-  pub header : slice log at 8 ≡ bytes_of 4 range.page ++ (bytes_of 2 range.at ++ bytes_of 2 (length range.bytes))
-  pub stands : slice log (at + 8) (length range.bytes) ≡ range.bytes
+  pub header : slice log at range_head ≡ bytes_of 4 range.page ++ (bytes_of 2 range.at ++ bytes_of 2 (length range.bytes))
+  pub stands : slice log (at + range_head) (length range.bytes) ≡ range.bytes
   pub is : IsRange pages range
-  pub behind : next ≡ at + 8 + length range.bytes
+  pub behind : next ≡ at + range_head + length range.bytes
 
 -- ranges one behind the other
 abbrev pub AreRangesAt : ℕ → Image → ℕ → List Range → ℕ → Type 0
@@ -21,9 +21,9 @@ AreRangesAt pages log at (range ∷ ranges) next = (mid : ℕ) × IsRangeAt page
 
 -- a mini-transaction: how many ranges, and the ranges
 pub record IsTransactionAt (pages : ℕ) (log : Image) (at : ℕ) (ranges : Transaction) (next : ℕ) : Type 0 where
-  pub count : slice log at 2 ≡ bytes_of 2 (length ranges)
-  pub few : length ranges < 65536
-  pub each : AreRangesAt pages log (at + 2) ranges next
+  pub count : slice log at count_size ≡ bytes_of 2 (length ranges)
+  pub few : length ranges < 256 ^ 2
+  pub each : AreRangesAt pages log (at + count_size) ranges next
 
 abbrev pub AreTransactionsAt : ℕ → Image → ℕ → List Transaction → ℕ → Type 0
 AreTransactionsAt pages log at [] next = next ≡ at

@@ -4,17 +4,18 @@ ghost use Rattle.std.specs.Prelude.{◌≡◌, ◌+◌, ◌<◌, ◌≤◌, [], 
 ghost use Rattle.std.specs.Option.{option_map};
 ghost use Rattle.isp_disk.specs.Moments.{Quiet};
 ghost use Rattle.isp_disk.specs.Phases.{OnlyReads};
-ghost use Rattle.isp_format.specs.Log.{IsBody, Transaction, log_bytes, log_of};
+ghost use Rattle.isp_format.specs.Control.{most_pages};
+ghost use Rattle.isp_format.specs.Log.{IsBody, Transaction, batch_head, log_bytes, log_of};
 ghost use Rattle.isp_redo.specs.Changes.{ChangesLog, HasLog, MovesEnd, TurnsLog, with_batch};
 ghost use Rattle.isp_redo.specs.Reading.{FindsEnd};
 
-use crate::fields::LOG_PLACE;
 use crate::scan::scan_end;
 use crate::write::{lay_body, set_gate};
 use isp_disk::{Failed, World};
+use isp_format::{BATCH_HEAD, LOG_BYTES, LOG_PLACE};
 
-// The greatest place at which the gate behind a batch may stand, less the five bytes before the batch's body.
-const MOST_BODY: u64 = 1_048_570;
+// The greatest place at which the gate behind a batch may stand, less the bytes before the batch's body.
+const MOST_BODY: u64 = LOG_BYTES - 1 - BATCH_HEAD;
 
 /// The redo log of a file, seen as the place of the closed gate that ends it, in bytes from the log's beginning.
 #[derive(Clone, Copy, Debug, PartialEq, Eq)]
@@ -28,7 +29,7 @@ impl Log {
     /// ranges lie in pages below `pages`. It reads piece by piece, and writes nothing.
     pub fn scan<W: World>(world: &mut W, pages: u32) -> Result<Option<Log>, Failed>
         requires quiet { Quiet (W.pending world.old) }
-        requires few { pages ≤ 65536 }
+        requires few { pages ≤ most_pages }
 
         ensures found { W.tells
             → IfOk result (λ log.
@@ -44,7 +45,7 @@ impl Log {
 
     /// Whether a batch with a body of so many bytes, and the gate behind it, lie in the log.
     pub fn fits(&self, len: usize) -> bool
-        ensures { result ≡ nat_lt (self.now.end + 5 + len) log_bytes }
+        ensures { result ≡ nat_lt (self.now.end + batch_head + len) log_bytes }
     {
         match MOST_BODY.checked_sub(self.end) {
             Some(room) => len as u64 <= room,
@@ -56,7 +57,7 @@ impl Log {
     /// gate is on the disk, and not before its body is. At a failure the log has it or not.
     pub fn append<W: World>(&mut self, world: &mut W, body: &[u8]) -> Result<(), Failed>
         requires quiet { Quiet (W.pending world.old) }
-        requires fits { self.old.end + 5 + length body.now < log_bytes }
+        requires fits { self.old.end + batch_head + length body.now < log_bytes }
 
         ensures appended { W.tells
             → (pages : ℕ) (batches : List (List Transaction)) (batch : List Transaction)
@@ -64,14 +65,14 @@ impl Log {
             → IsBody pages batch body.now
             → TurnsLog W.World pages (record { batches = batches; end = self.old.end })
             (with_batch batches batch self.old.end (length body.now)) world.old world.new result }
-        ensures end { MovesEnd self.old.end (self.old.end + 5 + length body.now)
+        ensures end { MovesEnd self.old.end (self.old.end + batch_head + length body.now)
             self.new.end result }
         ensures changes { ChangesLog W.World world.old world.new result }
     {
         let gate = LOG_PLACE + self.end;
         lay_body(world, gate, body)?;
         set_gate(world, gate, 1)?;
-        self.end += 5 + body.len() as u64;
+        self.end += BATCH_HEAD + body.len() as u64;
         Ok(())
     }
 

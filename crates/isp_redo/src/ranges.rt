@@ -4,13 +4,17 @@ ghost use Rattle.std.specs.Prelude.{◌≡◌, ◌+◌, ◌*◌, ◌<◌, ◌≤
 ghost use Rattle.std.specs.Option.{option_map};
 ghost use Rattle.isp_disk.specs.Moments.{Quiet, slice};
 ghost use Rattle.isp_disk.specs.Phases.{OnlyReads};
+ghost use Rattle.isp_format.specs.Control.{most_pages};
 ghost use Rattle.isp_format.specs.Log.{log_bytes, log_of};
-ghost use Rattle.isp_format.specs.Ranges.{Range};
-ghost use Rattle.isp_redo.specs.Places.{GoesOn, IsAt, IsFurther, LeadsOn, LiesInPage, TakesRange, place_of};
+ghost use Rattle.isp_format.specs.Ranges.{Range, page_bytes};
+ghost use Rattle.isp_redo.specs.Places.{GoesOn, IsAt, IsFurther, LeadsOn, LiesInPage, TakesRange, most_left, place_of};
 
-use crate::fields::{Header, LOG_BYTES, read_at, read_count, read_gate, read_header, read_size};
+use crate::fields::{read_at, read_count, read_gate, read_header, read_size};
 use isp_disk::{Failed, World};
-use isp_page::{PAGE_BYTES, PageNo};
+use isp_format::{BATCH_HEAD, COUNT_BYTES, LOG_BYTES, PAGE_BYTES, PageNo, RANGE_HEAD, RangeHead};
+
+// One more than how many ranges a mini-transaction may have.
+const MOST_LEFT: u64 = 65_536;
 
 /// A range of the log: its page, its place there and its length, in bytes, and the number that tells the place of the
 /// range behind it.
@@ -24,38 +28,38 @@ pub struct LogRange {
 
 /// A place between ranges: a place of the log, how many ranges of its mini-transaction lie ahead, and the end of the body.
 #[derive(Clone, Copy, Debug, PartialEq, Eq)]
-pub struct Place {
+pub struct LogPlace {
     pub at: u64,
     pub left: u64,
     pub end: u64,
 }
 
 // The place that a number tells.
-fn unpack(n: u64) -> Place
+fn unpack(n: u64) -> LogPlace
     ensures { result ≡ place_of n }
 {
-    Place {
-        at: n % 1_048_576,
-        left: n / 1_048_576 % 65_536,
-        end: n / 68_719_476_736 % 1_048_576,
+    LogPlace {
+        at: n % LOG_BYTES,
+        left: n / LOG_BYTES % MOST_LEFT,
+        end: n / (LOG_BYTES * MOST_LEFT) % LOG_BYTES,
     }
 }
 
 // The number that tells a place.
-fn pack(place: Place) -> u64
-    requires at { place.at < 1048576 }
-    requires left { place.left < 65536 }
-    requires end { place.end < 1048576 }
+fn pack(place: LogPlace) -> u64
+    requires at { place.at < log_bytes }
+    requires left { place.left < most_left }
+    requires end { place.end < log_bytes }
     ensures { place_of result ≡ place }
 {
-    place.at + place.left * 1_048_576 + place.end * 68_719_476_736
+    place.at + place.left * LOG_BYTES + place.end * (LOG_BYTES * MOST_LEFT)
 }
 
 // The place behind a gate that stands at the end of a body, if the gate is open.
-fn next_batch<W: World>(world: &mut W, end: u64) -> Result<Option<Place>, Failed>
+fn next_batch<W: World>(world: &mut W, end: u64) -> Result<Option<LogPlace>, Failed>
     requires quiet { Quiet (W.pending world.old) }
     requires place { end < log_bytes }
-    ensures leads { W.tells → (pages : ℕ) → pages ≤ 65536 → IfOk result (λ next.
+    ensures leads { W.tells → (pages : ℕ) → pages ≤ most_pages → IfOk result (λ next.
         LeadsOn pages (log_of (W.image world.old))
         (record { at = end; left = 0; end = end }) next) }
     ensures onward { IfOk result (λ next. GoesOn (record { at = end; left = 0; end = end }) next) }
@@ -64,45 +68,45 @@ fn next_batch<W: World>(world: &mut W, end: u64) -> Result<Option<Place>, Failed
     if read_gate(world, end)? != 1 {
         return Ok(None);
     }
-    if LOG_BYTES - end < 6 {
+    if LOG_BYTES - end < BATCH_HEAD + 1 {
         return Ok(None);
     }
     let size = u64::from(read_size(world, end + 1)?);
-    if size > LOG_BYTES - end - 6 {
+    if size > LOG_BYTES - end - BATCH_HEAD - 1 {
         return Ok(None);
     }
-    Ok(Some(Place {
-        at: end + 5,
+    Ok(Some(LogPlace {
+        at: end + BATCH_HEAD,
         left: 0,
-        end: end + 5 + size,
+        end: end + BATCH_HEAD + size,
     }))
 }
 
 // The place behind the count of a mini-transaction.
-fn next_transaction<W: World>(world: &mut W, at: u64, end: u64) -> Result<Option<Place>, Failed>
+fn next_transaction<W: World>(world: &mut W, at: u64, end: u64) -> Result<Option<LogPlace>, Failed>
     requires quiet { Quiet (W.pending world.old) }
     requires places { (at < end) × (end < log_bytes) }
-    ensures leads { W.tells → (pages : ℕ) → pages ≤ 65536 → IfOk result (λ next.
+    ensures leads { W.tells → (pages : ℕ) → pages ≤ most_pages → IfOk result (λ next.
         LeadsOn pages (log_of (W.image world.old)) (record { at = at; left = 0; end = end }) next) }
     ensures onward { IfOk result (λ next. GoesOn (record { at = at; left = 0; end = end }) next) }
     ensures reads { OnlyReads W.World world.old world.new result }
 {
-    if end - at < 2 {
+    if end - at < COUNT_BYTES {
         return Ok(None);
     }
     let count = read_count(world, at)?;
-    Ok(Some(Place {
-        at: at + 2,
+    Ok(Some(LogPlace {
+        at: at + COUNT_BYTES,
         left: u64::from(count),
         end,
     }))
 }
 
 // The next place where no range of a mini-transaction lies ahead: behind the next count, or behind the next open gate.
-fn onward<W: World>(world: &mut W, at: u64, end: u64) -> Result<Option<Place>, Failed>
+fn onward<W: World>(world: &mut W, at: u64, end: u64) -> Result<Option<LogPlace>, Failed>
     requires quiet { Quiet (W.pending world.old) }
     requires places { (at ≤ end) × (end < log_bytes) }
-    ensures leads { W.tells → (pages : ℕ) → pages ≤ 65536 → IfOk result (λ next.
+    ensures leads { W.tells → (pages : ℕ) → pages ≤ most_pages → IfOk result (λ next.
         LeadsOn pages (log_of (W.image world.old)) (record { at = at; left = 0; end = end }) next) }
     ensures onward { IfOk result (λ next. GoesOn (record { at = at; left = 0; end = end }) next) }
     ensures reads { OnlyReads W.World world.old world.new result }
@@ -115,8 +119,8 @@ fn onward<W: World>(world: &mut W, at: u64, end: u64) -> Result<Option<Place>, F
 }
 
 // Whether a range with this header has a byte and ends within its page.
-fn lies_in_page(header: Header) -> bool
-    ensures { result ≡ (nat_lt 0 header.len && nat_le (header.at + header.len) 4096) }
+fn lies_in_page(header: RangeHead) -> bool
+    ensures { result ≡ (nat_lt 0 header.len && nat_le (header.at + header.len) page_bytes) }
 {
     header.len > 0 && usize::from(header.at) + usize::from(header.len) <= PAGE_BYTES
 }
@@ -129,7 +133,7 @@ fn fill<W: World>(
     into: &mut [u8; PAGE_BYTES],
 ) -> Result<(), Failed>
     requires quiet { Quiet (W.pending world.old) }
-    requires places { (at ≤ log_bytes) × (len ≤ 4096) }
+    requires places { (at ≤ log_bytes) × (len ≤ page_bytes) }
     ensures bytes { W.tells
         → OnOk result (take len into.new ≡ slice (log_of (W.image world.old)) at len) }
     ensures reads { OnlyReads W.World world.old world.new result }
@@ -141,13 +145,13 @@ fn fill<W: World>(
 // The range at a place where one lies ahead.
 fn take<W: World>(
     world: &mut W,
-    place: Place,
+    place: LogPlace,
     into: &mut [u8; PAGE_BYTES],
 ) -> Result<Option<LogRange>, Failed>
     requires quiet { Quiet (W.pending world.old) }
     requires places { (place.at ≤ place.end) × (place.end < log_bytes) }
-    requires left { (0 < place.left) × (place.left < 65536) }
-    ensures found { W.tells → (pages : ℕ) → pages ≤ 65536 → (ranges : List Range)
+    requires left { (0 < place.left) × (place.left < most_left) }
+    ensures found { W.tells → (pages : ℕ) → pages ≤ most_pages → (ranges : List Range)
         → IsAt pages (log_of (W.image world.old)) place ranges
         → IfOk result (λ found.
         TakesRange pages (log_of (W.image world.old)) ranges into.new found) }
@@ -156,7 +160,7 @@ fn take<W: World>(
         GoesOn place (option_map (λ range. place_of range.next) found)) }
     ensures reads { OnlyReads W.World world.old world.new result }
 {
-    if place.end - place.at < 8 {
+    if place.end - place.at < RANGE_HEAD {
         return Ok(None);
     }
     let header = read_header(world, place.at)?;
@@ -164,16 +168,16 @@ fn take<W: World>(
     if !lies_in_page(header) {
         return Ok(None);
     }
-    if len > place.end - place.at - 8 {
+    if len > place.end - place.at - RANGE_HEAD {
         return Ok(None);
     }
-    fill(world, place.at + 8, header.len, into)?;
+    fill(world, place.at + RANGE_HEAD, header.len, into)?;
     Ok(Some(LogRange {
         page: PageNo(header.page),
         at: header.at,
         len: header.len,
-        next: pack(Place {
-            at: place.at + 8 + len,
+        next: pack(LogPlace {
+            at: place.at + RANGE_HEAD + len,
             left: place.left - 1,
             end: place.end,
         }),
@@ -188,7 +192,7 @@ pub fn read_range<W: World>(
     into: &mut [u8; PAGE_BYTES],
 ) -> Result<Option<LogRange>, Failed>
     requires quiet { Quiet (W.pending world.old) }
-    ensures found { W.tells → (pages : ℕ) → pages ≤ 65536 → (ranges : List Range)
+    ensures found { W.tells → (pages : ℕ) → pages ≤ most_pages → (ranges : List Range)
         → IsAt pages (log_of (W.image world.old)) (place_of from) ranges
         → IfOk result (λ found.
         TakesRange pages (log_of (W.image world.old)) ranges into.new found) }

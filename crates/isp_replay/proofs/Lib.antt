@@ -1,4 +1,4 @@
-pub mod LogBytes
-pub mod PoolAfter
-pub mod PutLaws
-pub mod Replayed
+mod LogBytes
+mod PoolAfter
+mod PutLaws
+mod Replayed

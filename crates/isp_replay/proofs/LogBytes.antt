@@ -7,8 +7,8 @@ use Rattle.isp_format.proofs.LogWalks.{log_inside, log_same}
 use Rattle.isp_format.proofs.Slices.{slice_agree}
 use Rattle.isp_redo.specs.Places.{IsAt, place_of}
 use Rattle.isp_redo.specs.Reading.{AreRangesAt, AreTransactionsAt, IsRangeAt, IsTransactionAt}
-use Rattle.isp_redo.specs.declared.ranges.Place.{Place}
-use Rattle.isp_redo.proofs.Positions.{ranges_forward, transaction_forward, transactions_forward}
+use Rattle.isp_redo.specs.declared.ranges.LogPlace.{LogPlace}
+use Rattle.isp_redo.proofs.PlaceLaws.{ranges_forward, transaction_forward, transactions_forward}
 
 pub place_inside : (n : ℕ) → (place_of n).end < log_bytes
 place_inside n = omega arith
@@ -57,7 +57,7 @@ batches_same pages one other at batches end same inside is =
     log_same pages one other at batches end is (λ k small. same (at + k) (omega (arith, small, within)))
 
 -- the same ranges lie ahead
-pub ahead_same : (pages : ℕ) (one other : Image) (place : Place) (ranges : List Range) → SameBytes one other → place.end < log_bytes → IsAt pages one place ranges → IsAt pages other place ranges
+pub ahead_same : (pages : ℕ) (one other : Image) (place : LogPlace) (ranges : List Range) → SameBytes one other → place.end < log_bytes → IsAt pages one place ranges → IsAt pages other place ranges
 ahead_same pages one other place ranges same inside is =
     let forward = transactions_forward pages one is.mid is.inside place.end is.rest in
     record {

@@ -1,30 +1,36 @@
 -- A cache while the ranges of the log are put into its pages, over any world.
-use Rattle.std.proofs.Common.{◌≡◌, ◌∙◌, ◌+◌, ◌*◌, ◌<◌, ◌≤◌, ◌||◌, false, All, List, [], ◌∷◌, ◌++◌, ℕ, suc, Option, Some, None, refl, sym, ap, subst, arith, length, length-append}
-use Rattle.std.specs.List.{flat_map}
+use Rattle.std.proofs.Common.{◌≡◌, ◌∙◌, ◌+◌, ◌*◌, ◌<◌, ◌≤◌, ◌||◌, false, All, List, [], ◌∷◌, ◌++◌, ℕ, suc, Ok, Option, Some, None, refl, sym, ap, subst, arith, length, length-append}
+use Rattle.std.specs.List.{count_by, flat_map}
+use Rattle.std.specs.Prelude.{vec_capacity}
 use Rattle.std.proofs.Math.Seq.{get_or-append_seam}
 use Rattle.std.proofs.lemmas.List.{append-nil, append_assoc}
 use Rattle.std.proofs.lemmas.List.Elements.{All-append}
-use Rattle.isp_disk.specs.Moments.{Image, Within, either, in_range, put}
+use Rattle.isp_disk.specs.Moments.{Image, Quiet, Within, either, in_range, put}
+use Rattle.isp_disk.specs.declared.world.Failed.{Failed}
 use Rattle.isp_disk.specs.declared.world.World.{Ghosts}
+use Rattle.isp_disk.proofs.PhaseLaws.{calls_on}
 use Rattle.isp_format.specs.Contents.{StandsFor, ranges_of}
 use Rattle.isp_format.specs.Log.{IsLog, Transaction, log_bytes, log_of, log_place}
 use Rattle.isp_format.specs.Ranges.{Contents, IsRange, Range, SameIn, cover, page_bytes, place_of as start_of, puts}
 use Rattle.isp_format.proofs.Places.{not_first, not_second}
 use Rattle.isp_format.proofs.Puts.{cover_append, puts_append}
-use Rattle.isp_frames.specs.Cached.{CachesAs, IsCached, StaysCached, now}
-use Rattle.isp_frames.specs.Held.{AreFree, pinned_places}
+use Rattle.isp_frames.specs.Cached.{CachesAs, IsCached, IsSteady, PutsBytes, StaysCached, now, with_pool, with_stable}
+use Rattle.isp_frames.specs.Held.{AreBelow, AreFree, NonePinned, pinned_places}
 use Rattle.isp_frames.specs.declared.cache.Cache.{Cache}
-use Rattle.isp_frames.proofs.CacheLaws.{changed_covered, free_cached, none_held}
+use Rattle.isp_frames.proofs.CacheLaws.{changed_covered, free_cached, none_held, stays_read}
+use Rattle.isp_frames.proofs.NowLaws.{overwrite}
+use Rattle.isp_frames.proofs.StayLaws.{shape_twice}
+use Rattle.isp_pool.proofs.StateLaws.{edited_count}
 use Rattle.isp_base.specs.declared.page_no.PageNo.{PageNo}
-use Rattle.isp_pool.specs.Frames.{IsPool, changed, frame_at}
+use Rattle.isp_pool.specs.Frames.{IsPool, PoolState, changed, frame_at, is_pinned}
 use Rattle.isp_redo.specs.Places.{IsAt, place_of}
-use Rattle.isp_redo.proofs.Ahead.{begins_at}
-use Rattle.isp_replay.specs.Putting.{IsPut}
+use Rattle.isp_redo.proofs.PlaceLaws.{begins_at}
+use Rattle.isp_replay.specs.Putting.{IsPut, IsReady, KeepsFrames}
 use Rattle.isp_replay.proofs.LogBytes.{ahead_same, place_inside, same_bytes}
-use Rattle.isp_replay.proofs.PoolAfter.{IsHeld}
-use Rattle.isp_stable.specs.File.{IsFile, KeepsShape, StandsOnly, flushed, placed}
+use Rattle.isp_replay.proofs.PoolAfter.{IsHeld, changed_below, changed_unpinned, fewer_pinned, frame_held, held_count, held_unpinned}
+use Rattle.isp_stable.specs.File.{IsFile, KeepsShape, ReadsStable, StandsOnly, flushed, placed}
 use Rattle.isp_stable.specs.declared.stable.Stable.{Stable}
-use Rattle.isp_stable.proofs.Files.{stands, stands_on, stands_weaker}
+use Rattle.isp_stable.proofs.FileLaws.{stands, stands_on, stands_weaker}
 
 -- all ranges of a log are ranges of the file
 
@@ -133,8 +139,8 @@ module _ {W : Type 0} (g : Ghosts W) where
   pub put_stops : (before : Contents) (batches : List (List Transaction)) (old read : Cache W) (new : W) (from : ℕ) (so_far : IsPut g before batches old (Some from)) (stays : StaysCached g old read so_far.cached.file.batches)
       → KeepsShape old.stable read.stable → g.printed read.stable.world ≡ g.printed old.stable.world → StandsOnly g old.stable read.stable.world (λ left. left ≡ flushed g old.stable so_far.cached.file.batches)
       → StandsOnly g read.stable new (λ left. left ≡ flushed g read.stable stays.after.cached.file.batches) → StandsOnly g old.stable new (λ left. left ≡ puts (ranges_of batches) before)
-  put_stops before batches old read new from so_far stays shape told first second =
-      stands_on g old.stable read.stable new (λ left. left ≡ puts (ranges_of batches) before) shape told (as_stood before batches old (Some from) read.stable.world so_far first)
+  put_stops before batches old read new from so_far stays shape printed first second =
+      stands_on g old.stable read.stable new (λ left. left ≡ puts (ranges_of batches) before) shape printed (as_stood before batches old (Some from) read.stable.world so_far first)
       (stands_weaker g read.stable new _ _ (λ left is. is ∙ still_stands before batches old read (Some from) so_far stays) second)
 
   -- bytes that the log covers were put into a page that had come into a frame
@@ -157,7 +163,7 @@ module _ {W : Type 0} (g : Ghosts W) where
         contents_are = made.contents_are ∙ (λ j. put (keeps.contents_are j) (start j) bytes);
       }
 
-  -- the same, told by the range
+  -- the same, printed by the range
   pub found_put : (old new : Cache W) (batches : List (List Transaction)) (range : Range) (page at : ℕ) (bytes : List ℕ) → page ≡ range.page → at ≡ range.at → bytes ≡ range.bytes
       → CachesAs g old new batches (put (now g old) (page * page_bytes + at) bytes) → CachesAs g old new batches (put (now g old) (start_of range) range.bytes)
   found_put old new batches range page at bytes page_is at_is bytes_are is =
@@ -179,3 +185,68 @@ module _ {W : Type 0} (g : Ghosts W) where
       let start : page * page_bytes + at ≡ start_of range = λ i. page_is i * page_bytes + at_is i in
       let all : ranges_of stays.after.cached.file.batches ≡ so_far.done ++ range ∷ rest = ap ranges_of (stays.after.same ∙ so_far.same) ∙ so_far.ranges_are ∙ ap (λ (ahead : List Range). so_far.done ++ ahead) first in
       (λ i. in_range (start i) (length (bytes_are i)) place) ∙ one_covered (ranges_of stays.after.cached.file.batches) so_far.done rest range all place out
+
+  -- the cache once a range was read
+  pub stays_reading : (old mid : Cache W) (cached : IsCached g old) → mid ≡ with_stable old mid.stable → g.image mid.stable.world ≡ g.image old.stable.world → mid.stable.log ≡ old.stable.log → KeepsShape old.stable mid.stable
+      → StaysCached g old mid cached.file.batches
+  stays_reading old mid cached others image log shape = subst (λ (t : Cache W). StaysCached g old t cached.file.batches) (sym others) (stays_read g old mid.stable cached image log shape)
+
+  pub steady_reading : (old mid : Cache W) → IsReady g old → (g.tells → IsCached g old) → mid ≡ with_stable old mid.stable → Quiet (g.pending mid.stable.world) → g.image mid.stable.world ≡ g.image old.stable.world → mid.stable.log ≡ old.stable.log
+      → KeepsShape old.stable mid.stable → IsSteady g mid
+  steady_reading old mid ready cached others quiet image log shape = record {
+    quiet = quiet;
+    below = subst (λ (s : PoolState). AreBelow mid.stable.pages s.frames) (sym (ap (λ (t : Cache W). t.pool) others))
+        (subst (λ (pages : ℕ). AreBelow pages old.pool.frames) (sym shape.pages) ready.below);
+    cached = λ tells. (stays_reading old mid (cached tells) others image log shape).after.cached;
+  }
+
+  pub unpinned_reading : (old mid : Cache W) → IsReady g old → mid ≡ with_stable old mid.stable → count_by is_pinned mid.pool.frames < length mid.pool.frames
+  unpinned_reading old mid ready others =
+      subst (λ (s : PoolState). count_by is_pinned s.frames < length s.frames) (sym (ap (λ (t : Cache W). t.pool) others)) (fewer_pinned old.pool ready.unpinned ready.some)
+
+  -- and once it was put
+  pub range_put : (before : Contents) (batches : List (List Transaction)) (old mid new : Cache W) (from next : ℕ) (so_far : IsPut g before batches old (Some from)) (stays : StaysCached g old mid so_far.cached.file.batches) → KeepsShape old.stable mid.stable
+      → (range : Range) (rest : List Range) → so_far.ahead ≡ range ∷ rest → (p : PageNo) (at : ℕ) (bytes : List ℕ) → p.0 ≡ range.page → at ≡ range.at → bytes ≡ range.bytes → at + length bytes ≤ 4096
+      → PutsBytes g p at bytes mid new → IsAt old.stable.pages (log_of (g.image old.stable.world)) (place_of next) rest → g.tells → IsPut g before batches new (Some next)
+  range_put before batches old mid new from next so_far stays shape range rest first p at bytes page_is at_is bytes_are fits did ahead tells =
+      let held = did.held in
+      let after = with_pool held (changed held.pool did.frame at bytes) in
+      let kept = did.kept.stays tells stays.after.cached in
+      let covered = it_is_covered before batches old mid from so_far stays range rest first p.0 at bytes page_is at_is bytes_are in
+      subst (λ (t : Cache W). IsPut g before batches t (Some next)) (sym did.new_is)
+      (one_put before batches old mid after from next so_far stays range rest first
+      (found_put mid after stays.after.cached.file.batches range p.0 at bytes page_is at_is bytes_are
+      (bytes_put mid held after stays.after.cached did.frame at p bytes kept did.frames (frame_held p did.frame mid.pool held.pool did.is_held) fits covered refl refl))
+      (then_at old.stable held.stable next rest (shape_twice g old.stable mid.stable held.stable shape did.kept.file.stable.shape)
+      (λ place low high. stays.log place low high ∙ kept.log place low high) ahead))
+
+  -- what a stop within that leaves
+  pub stops_change : (mid new : Cache W) (p : PageNo) (at : ℕ) (bytes : List ℕ) → PutsBytes g p at bytes mid new → g.tells → (cached : IsCached g mid)
+      → StandsOnly g mid.stable new.stable.world (λ left. left ≡ flushed g mid.stable cached.file.batches)
+  stops_change mid new p at bytes did tells cached =
+      subst (λ (t : Cache W). StandsOnly g mid.stable t.stable.world (λ left. left ≡ flushed g mid.stable cached.file.batches)) (sym did.new_is) (did.kept.stops tells cached)
+
+  -- what stays of the cache
+  pub keeps_put : {A T : Type 0} (old mid new : Cache W) (p : PageNo) (at : ℕ) (bytes : List ℕ) (a : A) (t : T) → IsReady g old → mid ≡ with_stable old mid.stable → ReadsStable {T = A} {E = Failed} g old.stable mid.stable (Ok a) → PutsBytes g p at bytes mid new
+      → KeepsFrames g {T = T} old new (Ok t)
+  keeps_put old mid new p at bytes a t ready others reads did =
+      let held = did.held in
+      let pool : mid.pool ≡ old.pool = ap (λ (c : Cache W). c.pool) others in
+      let batch : vec_capacity mid.batch ≡ vec_capacity old.batch = ap (λ (c : Cache W). vec_capacity c.batch) others in
+      let there = frame_held p did.frame mid.pool held.pool did.is_held in
+      let calls = calls_on g old.stable.world mid.stable.world held.stable.world a (Ok did.frame) reads.reads.calls did.kept.file.stable.calls in
+      let unpinned : NonePinned mid.pool = subst NonePinned (sym pool) ready.unpinned in
+      let count : length (changed held.pool did.frame at bytes).frames ≡ length old.pool.frames =
+      edited_count held.pool did.frame (overwrite at bytes) ∙ held_count p did.frame mid.pool held.pool did.is_held ∙ ap (λ (s : PoolState). length s.frames) pool in
+      subst (λ (c : Cache W). KeepsFrames g old c (Ok t)) (sym did.new_is) (record {
+        calls = record { printed = calls.printed; printer = calls.printer; cause = record { later = calls.cause.later; steady = calls.cause.steady; failed = tt } };
+        shape = shape_twice g old.stable mid.stable held.stable reads.shape did.kept.file.stable.shape;
+        room = did.kept.file.room ∙ batch;
+        ready = record {
+          quiet = did.kept.file.steady.quiet;
+          below = changed_below held.pool did.frame at bytes p held.stable.pages there did.kept.file.steady.below;
+          unpinned = changed_unpinned held.pool did.frame at bytes p there (held_unpinned p did.frame mid.pool held.pool did.is_held unpinned);
+          some = omega (arith, count, ready.some);
+        };
+        count = count;
+      })

@@ -4,6 +4,7 @@ use Rattle.isp_disk.specs.Calls.{DiskCall}
 use Rattle.isp_disk.specs.Moments.{Quiet}
 use Rattle.isp_disk.specs.declared.world.World.{Ghosts}
 use Rattle.isp_format.specs.Contents.{ranges_of}
+use Rattle.isp_format.specs.Doublewrite.{most_copies}
 use Rattle.isp_format.specs.Log.{Transaction, log_bytes, log_of}
 use Rattle.isp_format.specs.Ranges.{Contents, Range, puts}
 use Rattle.isp_frames.specs.Cached.{IsCached, now}
@@ -11,9 +12,9 @@ use Rattle.isp_frames.specs.Held.{AreBelow, AreFree, NonePinned}
 use Rattle.isp_frames.specs.declared.cache.Cache.{Cache}
 use Rattle.isp_page.specs.declared.fault.StoreFault.{StoreFault}
 use Rattle.isp_redo.specs.Places.{IsAt, place_of}
-use Rattle.isp_replay.specs.Refusing.{ReplayFails, disk_part}
-use Rattle.isp_replay.specs.declared.refusal.Refusal.{Refusal}
-use Rattle.isp_replay.specs.declared.refusal.Refusal.TheVariants.{DiskFailed}
+use Rattle.isp_replay.specs.Faults.{ReplayFails, disk_part}
+use Rattle.isp_replay.specs.declared.fault.ReplayFault.{ReplayFault}
+use Rattle.isp_replay.specs.declared.fault.ReplayFault.TheVariants.{DiskFailed}
 use Rattle.isp_stable.specs.File.{IsFile, KeepsShape, StandsOnly, flushed}
 use Rattle.isp_stable.specs.declared.stable.Stable.{Stable}
 
@@ -28,8 +29,8 @@ module _ {W : Type 0} (g : Ghosts W) where
     pub quiet : Quiet (g.pending s.stable.world)
     pub file : g.tells → IsFile g s.stable
     pub free : AreFree s.pool
-    pub many : 64 ≤ length s.pool.frames
-    pub room : 64 ≤ vec_capacity s.batch
+    pub many : most_copies ≤ length s.pool.frames
+    pub room : most_copies ≤ vec_capacity s.batch
 
   -- between two ranges: nothing is pending, and the frames, of which none is pinned, hold pages of the file
   pub record IsReady (s : Cache W) : Type 0 where
@@ -56,13 +57,13 @@ module _ {W : Type 0} (g : Ghosts W) where
     pub contents : now g s ≡ puts done before
 
   -- Ranges are put up to the place that the result tells, and no page is missing. The file stands for the same at each stop.
-  pub record PutsOn {T : Type 0} (next : T → Option ℕ) (before : Contents) (batches : List (List Transaction)) (old new : Cache W) (result : Result T Refusal) : Type 0 where
+  pub record PutsOn {T : Type 0} (next : T → Option ℕ) (before : Contents) (batches : List (List Transaction)) (old new : Cache W) (result : Result T ReplayFault) : Type 0 where
     pub put : IfOk result (λ t. IsPut before batches new (next t))
     pub stops : StandsOnly g old.stable new.stable.world (λ contents. contents ≡ puts (ranges_of batches) before)
     pub tested : IfErr result (λ e. e ≡ DiskFailed)
 
   -- what stays of a cache while ranges are put
-  pub record KeepsFrames {T : Type 0} (old new : Cache W) (result : Result T Refusal) : Type 0 where
+  pub record KeepsFrames {T : Type 0} (old new : Cache W) (result : Result T ReplayFault) : Type 0 where
     pub calls : DiskCall g old.stable.world new.stable.world (disk_part result)
     pub shape : KeepsShape old.stable new.stable
     pub room : vec_capacity new.batch ≡ vec_capacity old.batch

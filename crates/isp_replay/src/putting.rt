@@ -5,17 +5,17 @@ ghost use Rattle.isp_format.specs.Ranges.{Contents};
 ghost use Rattle.isp_frames.specs.Cached.{IsCached};
 ghost use Rattle.isp_replay.specs.Putting.{IsPut, IsReady, KeepsFrames, PutsOn, way_left};
 
-use crate::refusal::Refusal;
+use crate::fault::ReplayFault;
 use isp_disk::World;
+use isp_format::PAGE_BYTES;
 use isp_frames::Cache;
-use isp_page::PAGE_BYTES;
 
 /// Puts the range at a place of the log into its page, and answers the place of the next one; None at the end of the log.
 pub(crate) fn put_next<W: World>(
     cache: &mut Cache<W>,
     from: u64,
     bytes: &mut [u8; PAGE_BYTES],
-) -> Result<Option<u64>, Refusal>
+) -> Result<Option<u64>, ReplayFault>
     requires ready { IsReady W.World cache.old }
     requires cached { W.tells → IsCached W.World cache.old }
     ensures put { W.tells → (before : Contents) (batches : List (List Transaction))
@@ -24,15 +24,13 @@ pub(crate) fn put_next<W: World>(
     ensures onward { IfOk result (λ next. way_left next < way_left (Some from)) }
     ensures kept { KeepsFrames W.World cache.old cache.new result }
 {
-    let Some(range) = cache.stable.read_range(from, bytes)? else {
+    let Some(range) = cache.read_range(from, bytes)? else {
         return Ok(None);
     };
-    if range.page.0 >= cache.stable.pages {
-        return Err(Refusal::NoSuchPage);
+    if range.page.0 >= cache.stable().pages() {
+        return Err(ReplayFault::NoSuchPage);
     }
-    let frame = cache.hold(range.page)?;
-    prove!(frame < cache.pool.frames());
     let bytes = &bytes[..usize::from(range.len)];
-    cache.pool.change(frame, range.at, bytes);
+    cache.change(range.page, range.at, bytes)?;
     Ok(Some(range.next))
 }

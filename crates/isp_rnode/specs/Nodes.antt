@@ -4,6 +4,7 @@ use Rattle.std.specs.Prelude.{◌≡◌, ℕ, zero, suc, ◌+◌, ◌*◌, ◌�
 use Rattle.std.specs.List.{flat_map}
 use Rattle.std.specs.Int.{cast_signed, cast_unsigned, w32, w64}
 use Rattle.isp_base.specs.Lists.{Has}
+use Rattle.isp_format.specs.Control.{most_fanout}
 use Rattle.isp_format.specs.Header.{Header, header_of, number_in}
 use Rattle.isp_format.specs.Kinds.{content_place, rtree_kind}
 use Rattle.isp_format.specs.Numbers.{bytes_of}
@@ -14,12 +15,19 @@ use Rattle.isp_forest.specs.declared.entry.To.{To}
 use Rattle.isp_forest.specs.declared.entry.To.TheVariants.{Child, Row}
 use Rattle.isp_forest.specs.Tree.{Node}
 
--- how many bytes an entry has, and how many entries a page holds at most
-abbrev pub entry_size : ℕ
-entry_size = 32
+-- how many bytes an entry has: those of its box, and behind them those that say where it leads
+abbrev pub box_size : ℕ
+box_size = 16
 
+abbrev pub to_size : ℕ
+to_size = 16
+
+abbrev pub entry_size : ℕ
+entry_size = box_size + to_size
+
+-- how many entries a page holds at most: as many as the greatest fan-out
 abbrev pub most_entries : ℕ
-most_entries = 120
+most_entries = most_fanout
 
 -- where the entry with that index stands
 abbrev pub entry_place : ℕ → ℕ
@@ -46,7 +54,7 @@ to_in zero bytes at = Row (cast_signed w64 (number_in 8 bytes at)) (number_in 8 
 to_in (suc level) bytes at = Child (record { 0 = number_in 4 bytes at })
 
 unfoldable pub entry_in : ℕ → List ℕ → ℕ → Entry
-entry_in level bytes at = record { b = box_in bytes at; to = to_in level bytes (at + 16) }
+entry_in level bytes at = record { b = box_in bytes at; to = to_in level bytes (at + box_size) }
 
 -- so many entries from a place on
 abbrev pub entries_from : ℕ → List ℕ → ℕ → ℕ → List Entry

@@ -12,8 +12,8 @@ ghost use Rattle.isp_rnode.specs.Nodes.{IsReadable, node_of};
 
 use crate::reading::{entry, entry_count};
 use isp_forest::{Entry, To};
+use isp_format::{Page, PageNo};
 use isp_mbr::{Box4, area, enlargement};
-use isp_page::{Page, PageNo};
 
 /// A subtree, with how much its box would be enlarged, and the area of the box.
 #[derive(Clone, Copy)]

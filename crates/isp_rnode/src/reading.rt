@@ -2,37 +2,41 @@
 
 ghost use Rattle.std.specs.Prelude.{◌≡◌, ◌↔◌, ◌+◌, ◌*◌, ◌<◌, ◌≤◌, ◌≤ℤ◌, Some, IfOk, IsTrue, length, slice_get};
 ghost use Rattle.isp_format.specs.Header.{header_of};
+ghost use Rattle.isp_format.specs.Ranges.{page_bytes};
 ghost use Rattle.isp_mbr.specs.Boxes.{IsBox};
-ghost use Rattle.isp_rnode.specs.Nodes.{IsReadable, box_in, entry_place, entry_size, node_of, signed_in, to_in};
+ghost use Rattle.isp_rnode.specs.Nodes.{IsReadable, box_in, box_size, entry_place, entry_size, node_of, signed_in, to_in, to_size};
 
 use isp_forest::{Entry, To};
+use isp_format::{
+    CONTENT_PLACE, MOST_FANOUT, Page, PageNo, RTREE_KIND, count_of, get_i32, get_i64, get_u32,
+    get_u64, kind_of, level_of,
+};
 use isp_mbr::Box4;
-use isp_page::{Page, PageNo, get_i32, get_i64, get_u16, get_u32, get_u64};
 use std::alloc::{AllocError, Global};
 
-/// The kind of a page of an R-tree.
-const NODE_KIND: u8 = 6;
-
-/// Where a page's entries begin.
-pub(crate) const FIRST_PLACE: usize = 64;
-
 /// How many bytes an entry has.
-pub(crate) const ENTRY_SIZE: usize = 32;
+pub(crate) const ENTRY_SIZE: usize = BOX_SIZE + TO_SIZE;
 
-/// How many entries a page holds at most.
-const MOST_ENTRIES: usize = 120;
+/// How many of them its box has.
+pub(crate) const BOX_SIZE: usize = 16;
+
+/// How many say where it leads.
+const TO_SIZE: usize = 16;
+
+/// How many entries a page holds at most: as many as the greatest fan-out.
+const MOST_ENTRIES: usize = MOST_FANOUT as usize;
 
 /// Whether a page can be read as a node: its kind is 6, it has at most 120 entries, and the corners of each one's box are
 /// in order.
 pub fn readable(p: &Page) -> bool
     ensures { IsTrue result ↔ IsReadable p.now.bytes }
 {
-    let count = usize::from(get_u16(p, 2));
-    if p.bytes[0] != NODE_KIND || count > MOST_ENTRIES {
+    let count = usize::from(count_of(p));
+    if kind_of(p) != RTREE_KIND || count > MOST_ENTRIES {
         return false;
     }
     for i in 0..count {
-        if !is_box(p, FIRST_PLACE + ENTRY_SIZE * i) {
+        if !is_box(p, CONTENT_PLACE + ENTRY_SIZE * i) {
             return false;
         }
     }
@@ -43,7 +47,7 @@ pub fn readable(p: &Page) -> bool
 pub fn entry_count(p: &Page) -> usize
     ensures { result ≡ length (node_of p.now.bytes).entries }
 {
-    usize::from(get_u16(p, 2))
+    usize::from(count_of(p))
 }
 
 /// The entry with that index, read where it stands.
@@ -55,7 +59,7 @@ pub fn entry(p: &Page, i: usize) -> Entry
     let at = place_of(p, i);
     Entry {
         b: box_at(p, at),
-        to: to_at(p, at + 16),
+        to: to_at(p, at + BOX_SIZE),
     }
 }
 
@@ -77,16 +81,16 @@ fn place_of(p: &Page, i: usize) -> usize
     requires readable { IsReadable p.now.bytes }
     requires inside { i < length (node_of p.now.bytes).entries }
     ensures place { result ≡ entry_place i }
-    ensures within { result + entry_size ≤ 4096 }
+    ensures within { result + entry_size ≤ page_bytes }
     ensures ordered { IsBox (box_in p.now.bytes result) }
 {
-    FIRST_PLACE + ENTRY_SIZE * i
+    CONTENT_PLACE + ENTRY_SIZE * i
 }
 
 // The box that stands there.
 #[tactic(auto, unfolding(crate::specs::Nodes::box_in, crate::specs::Nodes::signed_in))]
 fn box_at(p: &Page, at: usize) -> Box4
-    requires inside { at + 16 ≤ 4096 }
+    requires inside { at + box_size ≤ page_bytes }
     requires ordered { IsBox (box_in p.now.bytes at) }
     ensures { result ≡ box_in p.now.bytes at }
 {
@@ -101,7 +105,7 @@ fn box_at(p: &Page, at: usize) -> Box4
 // Whether the corners that stand there are in order.
 #[tactic(auto, unfolding(crate::specs::Nodes::box_in))]
 fn is_box(p: &Page, at: usize) -> bool
-    requires { at + 16 ≤ 4096 }
+    requires { at + box_size ≤ page_bytes }
     ensures { IsTrue result ↔ IsBox (box_in p.now.bytes at) }
 {
     is_ordered(p, at, at + 8) && is_ordered(p, at + 4, at + 12)
@@ -110,8 +114,8 @@ fn is_box(p: &Page, at: usize) -> bool
 // Whether the number at the first place is at most the one at the other.
 #[tactic(auto, unfolding(crate::specs::Nodes::signed_in))]
 fn is_ordered(p: &Page, low: usize, high: usize) -> bool
-    requires low { low + 4 ≤ 4096 }
-    requires high { high + 4 ≤ 4096 }
+    requires low { low + 4 ≤ page_bytes }
+    requires high { high + 4 ≤ page_bytes }
     ensures { IsTrue result ↔ (signed_in p.now.bytes low ≤ℤ signed_in p.now.bytes high) }
 {
     get_i32(p, low) <= get_i32(p, high)
@@ -120,10 +124,10 @@ fn is_ordered(p: &Page, low: usize, high: usize) -> bool
 // Where an entry leads, by what stands there.
 #[tactic(auto, unfolding(crate::specs::Nodes::to_in))]
 fn to_at(p: &Page, at: usize) -> To
-    requires { at + 16 ≤ 4096 }
+    requires { at + to_size ≤ page_bytes }
     ensures { result ≡ to_in (header_of p.now.bytes).level p.now.bytes at }
 {
-    if p.bytes[1] == 0 {
+    if level_of(p) == 0 {
         To::Row {
             key: get_i64(p, at),
             number: get_u64(p, at + 8),

@@ -11,12 +11,13 @@ ghost use Rattle.isp_forest.specs.declared.entry.To.TheVariants.{Child, Row};
 ghost use Rattle.isp_forest.specs.Tree.{Node, child_of};
 ghost use Rattle.isp_mbr.specs.Boxes.{IsBox};
 ghost use Rattle.isp_format.specs.Kinds.{content_place, rtree_kind};
-ghost use Rattle.isp_rnode.specs.Nodes.{IsNode, IsReadable, StandFrom, box_bytes, box_in, child_bytes, entries_bytes, entry_bytes, entry_in, entry_size, most_entries, node_of, row_bytes, signed_in, to_bytes, to_in, with_count};
+ghost use Rattle.isp_format.specs.Ranges.{page_bytes};
+ghost use Rattle.isp_rnode.specs.Nodes.{IsNode, IsReadable, StandFrom, box_bytes, box_in, box_size, child_bytes, entries_bytes, entry_bytes, entry_in, entry_size, most_entries, node_of, row_bytes, signed_in, to_bytes, to_in, to_size, with_count};
 
-use crate::reading::{ENTRY_SIZE, FIRST_PLACE};
+use crate::reading::{BOX_SIZE, ENTRY_SIZE};
 use isp_forest::{Entry, To};
+use isp_format::{CONTENT_PLACE, Page, PageNo, head, put_bytes, put_u32, put_u64, set_head};
 use isp_mbr::Box4;
-use isp_page::{Page, PageNo, head, put_bytes, put_u32, put_u64, set_head};
 
 /// Replaces the entries of the page, and in its header their number and where they end. All other bytes stay.
 pub fn set_entries(p: &mut Page, entries: &[Entry])
@@ -35,7 +36,7 @@ pub fn set_entries(p: &mut Page, entries: &[Entry])
     let mut h = head(p);
     put_entries(p, entries);
     h.count = entries.len() as u16;
-    h.used = (FIRST_PLACE + ENTRY_SIZE * entries.len()) as u32;
+    h.used = (CONTENT_PLACE + ENTRY_SIZE * entries.len()) as u32;
     set_head(p, &h);
 }
 
@@ -50,13 +51,13 @@ fn put_entries(p: &mut Page, entries: &[Entry])
     ensures ordered { (e : Entry) → Has entries.now e → IsBox e.b }
 {
     for (i, e) in entries.iter().enumerate() {
-        put_entry(p, FIRST_PLACE + ENTRY_SIZE * i, e);
+        put_entry(p, CONTENT_PLACE + ENTRY_SIZE * i, e);
     }
 }
 
 // Puts an entry. It is read back on a page of a level that has such entries.
 fn put_entry(p: &mut Page, at: usize, e: &Entry)
-    requires { at + entry_size ≤ 4096 }
+    requires { at + entry_size ≤ page_bytes }
     ensures put { (place : ℕ) → image_of p.new.bytes place
         ≡ put (image_of p.old.bytes) at (entry_bytes e.now) place }
     ensures back { (level : ℕ) → is_none (child_of e.now) ≡ (level == 0)
@@ -65,14 +66,14 @@ fn put_entry(p: &mut Page, at: usize, e: &Entry)
 {
     put_box(p, at, &e.b);
     match e.to {
-        To::Row { key, number } => put_row(p, at + 16, key, number),
-        To::Child(page) => put_child(p, at + 16, page),
+        To::Row { key, number } => put_row(p, at + BOX_SIZE, key, number),
+        To::Child(page) => put_child(p, at + BOX_SIZE, page),
     }
 }
 
 // Puts the corners of a box.
 fn put_box(p: &mut Page, at: usize, b: &Box4)
-    requires { at + 16 ≤ 4096 }
+    requires { at + box_size ≤ page_bytes }
     ensures put { (place : ℕ) → image_of p.new.bytes place
         ≡ put (image_of p.old.bytes) at (box_bytes b.now) place }
     ensures back { box_in p.new.bytes at ≡ b.now }
@@ -86,7 +87,7 @@ fn put_box(p: &mut Page, at: usize, b: &Box4)
 
 // Puts a signed number, as two's complement.
 fn put_i32(p: &mut Page, at: usize, number: i32)
-    requires { at + 4 ≤ 4096 }
+    requires { at + 4 ≤ page_bytes }
     ensures put { (place : ℕ) → image_of p.new.bytes place
         ≡ put (image_of p.old.bytes) at (bytes_of 4 (cast_unsigned w32 number)) place }
     ensures back { signed_in p.new.bytes at ≡ number }
@@ -96,7 +97,7 @@ fn put_i32(p: &mut Page, at: usize, number: i32)
 
 // Puts the key of a row and the number of its entry.
 fn put_row(p: &mut Page, at: usize, key: i64, number: u64)
-    requires { at + 16 ≤ 4096 }
+    requires { at + to_size ≤ page_bytes }
     ensures put { (place : ℕ) → image_of p.new.bytes place
         ≡ put (image_of p.old.bytes) at (row_bytes key number) place }
     ensures back { to_in 0 p.new.bytes at ≡ Row key number }
@@ -107,7 +108,7 @@ fn put_row(p: &mut Page, at: usize, key: i64, number: u64)
 
 // Puts the number of a page, and zeros behind it.
 fn put_child(p: &mut Page, at: usize, page: PageNo)
-    requires { at + 16 ≤ 4096 }
+    requires { at + to_size ≤ page_bytes }
     ensures put { (place : ℕ) → image_of p.new.bytes place
         ≡ put (image_of p.old.bytes) at (child_bytes page.0) place }
     ensures back { (level : ℕ) → to_in (suc level) p.new.bytes at ≡ Child page }

@@ -1,2 +1,3 @@
-pub mod Files
-pub mod Moves
+pub mod FileLaws
+pub mod ImageLaws
+mod Moves

@@ -1,7 +1,8 @@
 -- A file between two calls: pages in their places, and batches in its log; and what a call on it leaves.
-use Rattle.std.specs.Prelude.{◌≡◌, ◌≢◌, ◌⊎◌, ℕ, List, Result, OnOk}
+use Rattle.std.specs.Prelude.{◌≡◌, ◌≢◌, ◌⊎◌, ℕ, ◌+◌, ◌<◌, List, Result, OnOk}
 use Rattle.isp_disk.specs.Calls.{DiskCall}
-use Rattle.isp_disk.specs.Moments.{Image, LeavesOnly, Quiet}
+use Rattle.isp_disk.specs.Moments.{During, Elapses, Image, Keeps, LeavesOnly, Quiet, no_place}
+use Rattle.isp_disk.specs.Outside.{HasCause, Prints}
 use Rattle.isp_disk.specs.Phases.{OnlyReads}
 use Rattle.isp_disk.specs.declared.world.World.{Ghosts}
 use Rattle.isp_format.specs.Contents.{StandsFor, ranges_of}
@@ -47,17 +48,25 @@ module _ {W : Type 0} (g : Ghosts W) where
 
   -- each stop since old leaves such an image, and what was printed
   abbrev pub StandsOnly : Stable W → W → (Contents → Type 0) → Type 0
-  StandsOnly old new P = LeavesOnly g.clock g.left_since old.world new (λ left told. StandsAs old P left × (told ≡ g.printed old.world))
+  StandsOnly old new P = LeavesOnly g.clock g.left_since old.world new (λ left printed. StandsAs old P left × (printed ≡ g.printed old.world))
 
   -- each stop since old leaves pages that have P, with the copies that count laid over them
   abbrev pub LaysOnly : W → W → (Contents → Type 0) → Type 0
-  LaysOnly old new P = LeavesOnly g.clock g.left_since old new (λ left told. P (laid left))
+  LaysOnly old new P = LeavesOnly g.clock g.left_since old new (λ left printed. P (laid left))
 
   -- the pages stand as they did before but for these ranges, and no byte of the log was changed
   pub record HasWritten (ranges : List Range) (batches : List (List Transaction)) (old new : Stable W) : Type 0 where
     pub placed_are : placed new ≡ puts ranges (placed old)
     pub batches_are : HasBatches new batches
     pub log_bytes_are : SameIn log_place log_bytes (g.image old.world) (g.image new.world)
+
+-- the log has room for a batch whose body has so many bytes, and for the gate behind it
+abbrev pub HasRoomFor : {W : Type 0} → Stable W → ℕ → Type 0
+HasRoomFor s size = s.log.end + 5 + size < log_bytes
+
+-- the log is empty
+abbrev pub IsLogEmpty : {W : Type 0} → Stable W → Type 0
+IsLogEmpty s = s.log.end ≡ 0
 
 -- what no call changes
 pub record KeepsShape {W : Type 0} (old new : Stable W) : Type 0 where
@@ -84,3 +93,13 @@ pub record MakesLog {W T E : Type 0} (g : Ghosts W) (batches : List (List Transa
   pub batches_are : OnOk result (HasBatches g new batches)
   pub stops : StandsOnly g old new.world P
   pub pages : LaysOnly g old.world new.world (λ contents. contents ≡ placed g old)
+
+-- What a print leaves: the file as it reads, and the line printed behind what was before, or a part of it. No call of the disk
+-- fails in it.
+pub record PrintsBeside {W T E : Type 0} (g : Ghosts W) (line : List ℕ) (old new : Stable W) (result : Result T E) : Type 0 where
+  pub same : new ≡ record old { world = new.world }
+  pub prints : g.tells → Prints (g.printed old.world) line (g.printed new.world) result
+  pub keeps : Keeps (g.image old.world) (g.pending old.world) (g.image new.world) (g.pending new.world)
+  pub time : Elapses (g.clock old.world) (g.clock new.world) (g.left_since old.world) (g.left_since new.world) (During (g.image old.world) (g.pending old.world) no_place (g.printed old.world) line)
+  pub cause : HasCause (g.print_faults old.world) (g.print_faults new.world) result
+  pub disk : g.disk_faults new.world ≡ g.disk_faults old.world

@@ -1,35 +1,92 @@
 //! A file of pages and its log, between two calls.
-ghost use Rattle.std.specs.Prelude.{◌≡◌, ◌⊎◌, ◌+◌, ◌<◌, ◌++◌, [], ◌∷◌, All, List, IfOk, OnOk, length, map};
+ghost use Rattle.std.specs.Prelude.{◌≡◌, ◌↔◌, ◌⊎◌, ◌+◌, ◌<◌, ◌++◌, [], ◌∷◌, All, List, IfOk, IsTrue, OnOk, length, map};
 ghost use Rattle.isp_disk.specs.Moments.{Agree, Quiet, slice};
 ghost use Rattle.isp_disk.specs.Phases.{OnlyReads};
 ghost use Rattle.isp_doublewrite.specs.Batches.{FitsBatch, number_of, whole_page};
 ghost use Rattle.isp_format.specs.Contents.{ranges_of};
-ghost use Rattle.isp_format.specs.Log.{IsBody, Transaction, log_bytes, log_of};
+ghost use Rattle.isp_format.specs.Log.{IsBody, Transaction, log_of};
 ghost use Rattle.isp_format.specs.Ranges.{Range, cover, page_bytes, page_of, puts};
 ghost use Rattle.isp_redo.specs.Places.{IsAt, IsFurther, LiesInPage, TakesRange, place_of};
-ghost use Rattle.isp_stable.specs.File.{HasWritten, IsFile, KeepsStable, LaysOnly, MakesLog, ReadsStable, StandsOnly, flushed, placed};
+ghost use Rattle.isp_stable.specs.File.{HasRoomFor, HasWritten, IsFile, KeepsStable, LaysOnly, MakesLog, PrintsBeside, ReadsStable, StandsOnly, flushed, placed};
 
 use isp_disk::{Failed, World};
 use isp_doublewrite::write_batch;
-use isp_page::{PAGE_BYTES, Page, PageNo};
+use isp_format::{PAGE_BYTES, Page, PageNo, page_place};
 use isp_redo::{Log, LogRange, read_range};
-
-/// Where the page area begins, in bytes.
-const AREA: u64 = 1_314_816;
 
 /// A file of pages with its redo log, between two calls: nothing is pending, and no copy counts.
 pub struct Stable<W: World> {
     /// The disk that has the file, at its beginning.
-    pub world: W,
+    world: W,
     /// The place behind the last batch of the log.
-    pub log: Log,
+    log: Log,
     /// How many pages the file has.
-    pub pages: u32,
+    pages: u32,
     /// How many entries a page of its R-trees has at most.
-    pub fanout: u32,
+    fanout: u32,
 }
 
 impl<W: World> Stable<W> {
+    /// The file of a world that has this log, so many pages, and this fan-out.
+    pub fn new(world: W, log: Log, pages: u32, fanout: u32) -> Stable<W>
+        ensures { result ≡ record { world = world; log = log; pages = pages; fanout = fanout } }
+    {
+        Stable {
+            world,
+            log,
+            pages,
+            fanout,
+        }
+    }
+
+    /// The disk that has the file, and the printer beside it.
+    pub fn into_world(self) -> W
+        ensures { result ≡ self.world }
+    {
+        let Stable {
+            world,
+            log: _,
+            pages: _,
+            fanout: _,
+        } = self;
+        world
+    }
+
+    /// The disk, to look at.
+    pub fn world(&self) -> &W
+        ensures { result.now ≡ self.now.world }
+    {
+        &self.world
+    }
+
+    /// How many pages the file has.
+    pub fn pages(&self) -> u32
+        ensures { result ≡ self.now.pages }
+    {
+        self.pages
+    }
+
+    /// How many entries a page of its R-trees has at most.
+    pub fn fanout(&self) -> u32
+        ensures { result ≡ self.now.fanout }
+    {
+        self.fanout
+    }
+
+    /// Whether the log has room for a batch whose body has so many bytes.
+    pub fn has_room(&self, len: usize) -> bool
+        ensures { IsTrue result ↔ HasRoomFor self.now len }
+    {
+        self.log.fits(len)
+    }
+
+    /// Prints these bytes beside the file.
+    pub fn print(&mut self, line: &[u8]) -> Result<(), Failed>
+        ensures { PrintsBeside W.World line.now self.old self.new result }
+    {
+        self.world.print(line)
+    }
+
     /// Fills `into` with the page as it stands in its place.
     pub fn read_page(&mut self, p: PageNo, into: &mut Page) -> Result<(), Failed>
         requires quiet { Quiet (W.pending self.old.world) }
@@ -37,8 +94,7 @@ impl<W: World> Stable<W> {
             → OnOk result (into.new.bytes ≡ page_of (placed W.World self.old) p.0) }
         ensures reads { ReadsStable W.World self.old self.new result }
     {
-        let at = AREA + u64::from(p.0) * PAGE_BYTES as u64;
-        fill(&mut self.world, at, &mut into.bytes)?;
+        fill(&mut self.world, page_place(p.0), &mut into.bytes)?;
         Ok(())
     }
 
@@ -90,7 +146,7 @@ impl<W: World> Stable<W> {
     /// the ranges or with them; a stop after it leaves them with the ranges.
     pub fn append(&mut self, body: &[u8]) -> Result<(), Failed>
         requires quiet { Quiet (W.pending self.old.world) }
-        requires fits { self.old.log.end + 5 + length body.now < log_bytes }
+        requires fits { HasRoomFor self.old (length body.now) }
         ensures appended { W.tells → (file : IsFile W.World self.old) (ranges : Transaction)
             → IsBody self.old.pages (ranges ∷ []) body.now
             → MakesLog W.World (file.batches ++ (ranges ∷ []) ∷ []) (λ contents.

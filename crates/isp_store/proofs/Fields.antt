@@ -1,23 +1,24 @@
 -- The fields of a store before and after a call, as its callers see them.
 use Rattle.std.proofs.Common.{◌≡◌, Bool, true, false, List, [], Result, Ok, Err, refl, sym, ◌∙◌, subst, ◌≤◌, ◌<◌, ◌++◌, ◌∷◌, ℕ, arith, length, map, if◌then◌else◌}
 use Rattle.std.proofs.lemmas.List.{length-append, length-map}
-use Rattle.isp_disk.specs.Moments.{Keeps}
+use Rattle.isp_disk.specs.Calls.{OnlyNow}
 use Rattle.isp_disk.specs.declared.world.World.{Ghosts}
-use Rattle.isp_frames.proofs.Staying.{OnlyNow}
+use Rattle.isp_frames.specs.Cached.{with_stable}
+use Rattle.isp_frames.specs.declared.cache.Cache.{Cache}
 use Rattle.isp_mini.specs.Extents.{page_number}
 use Rattle.isp_mini.specs.declared.changes.Extent.{Extent}
-use Rattle.isp_page.specs.Calls.{Continues, Flushes, Makes, Tells}
+use Rattle.isp_page.specs.Calls.{Continues, Flushes, Makes, PrintsPiece}
 use Rattle.isp_page.specs.State.{is_among, with_page}
 use Rattle.isp_page.specs.Steps.{done}
 use Rattle.isp_page.specs.declared.fault.StoreFault.TheVariants.{Disk, Print}
-use Rattle.isp_stable.specs.File.{ArePagesOf, IsFile, LaysOnly, placed}
-use Rattle.isp_store.specs.Calls.{LeavesWhole, StandsNow}
+use Rattle.isp_stable.specs.File.{ArePagesOf, IsFile, LaysOnly, PrintsBeside, placed}
+use Rattle.isp_store.specs.Calls.{ContinuesWhole, FlushesWhole, LeavesWhole, MakesWhole, StandsNow}
 use Rattle.isp_store.specs.Inside.{IsStore, seen}
 use Rattle.isp_store.specs.Running.{IsRunning, StaysLogging, StaysRunning}
 use Rattle.isp_store.specs.State.{StoreState, contents, store}
 use Rattle.isp_store.specs.declared.store.Store.TheInside.{Inside}
-use Rattle.isp_store.proofs.Passing.{CountsNow, Printed, continues_err, continues_ok, flushed_alone, makes_err, makes_ok, running_told, tells_err, tells_ok, whole_told, with_world}
-use Rattle.isp_store.proofs.Settled.{stands_running}
+use Rattle.isp_store.proofs.Passing.{CountsNow, continues_err, continues_ok, flushed_alone, makes_err, makes_ok, printed_is, prints_err, prints_ok, running_printed, whole_printed}
+use Rattle.isp_store.proofs.Cleaned.{stands_running}
 
 -- a page that has room among those changed
 pub room_with : (page : ℕ) (extents : List Extent) → (is_among page (map page_number extents) ≡ false → length (map page_number extents) < 48) → length extents ≤ 48 → length (with_page page (map page_number extents)) ≤ 48
@@ -76,29 +77,64 @@ module _ {W : Type 0} (g : Ghosts W) (s : Inside W) (old : StoreState W) (is : s
     pub whole_failed : {A T E F : Type 0} (extents : List Extent) (e : E) (f : F) → StaysRunning g {T = A} {E = E} s.cache new.cache extents (Err e) → LeavesWhole g {T = T} {E = F} old (seen new) (Err f)
     whole_failed extents e f stays = record { pages = subst LaysWhole is stays.pages; file = λ tells. tt }
 
-  -- a line was told, or a part of it
+    -- and no page is torn in it
 
-  module _ (world : W) (kept : IsStore g s) (line : List ℕ) where
-    abbrev pub told_store : Inside W
-    told_store = record s { cache = with_world g s.cache world }
+    pub continues_whole : {A T E : Type 0} (extents : List Extent) (a : A) (t : T) → CountsNow g → new.is_usable ≡ s.is_usable → StaysRunning g {T = A} {E = E} s.cache new.cache extents (Ok a) → ContinuesWhole g {T = T} old (seen new) (Ok t)
+    continues_whole extents a t counts same stays = record { along = goes_on extents a t counts same stays; whole = whole extents a t stays }
+
+    pub fails_whole : {A E : Type 0} (T : Type 0) (extents : List Extent) (e : E) → CountsNow g → StaysRunning g {T = A} {E = E} s.cache new.cache extents (Err e) → ContinuesWhole g {T = T} old (seen new) (Err Disk)
+    fails_whole T extents e counts stays = record { along = fails T extents e counts stays; whole = whole_failed {T = T} extents e Disk stays }
+
+    pub makes_whole : {A T E : Type 0} (a : A) (t : T) → CountsNow g → new.is_usable ≡ s.is_usable → StaysLogging g {T = A} {E = E} s.cache new.cache [] (Ok a) → MakesWhole g {T = T} old (seen new) (Ok t)
+    makes_whole a t counts same stays = record {
+      along = makes a t counts same stays;
+      whole = record { pages = subst LaysWhole is stays.pages; file = λ tells. (stays.running.along tells).file };
+    }
+
+    pub makes_failed_whole : {A E : Type 0} (T : Type 0) (e : E) → CountsNow g → StaysLogging g {T = A} {E = E} s.cache new.cache [] (Err e) → MakesWhole g {T = T} old (seen new) (Err Disk)
+    makes_failed_whole T e counts stays = record {
+      along = makes_failed T e counts stays;
+      whole = record { pages = subst LaysWhole is stays.pages; file = λ tells. tt };
+    }
+
+    pub flushes_whole : {A T E : Type 0} (a : A) (t : T) → CountsNow g → new.is_usable ≡ s.is_usable → StaysRunning g {T = A} {E = E} s.cache new.cache [] (Ok a) → FlushesWhole g {T = T} old (seen new) (Ok t)
+    flushes_whole a t counts same stays = record { along = flushes a t counts same stays; whole = whole [] a t stays }
+
+    pub flush_failed_whole : {A E : Type 0} (T : Type 0) (e : E) → CountsNow g → StaysRunning g {T = A} {E = E} s.cache new.cache [] (Err e) → FlushesWhole g {T = T} old (seen new) (Err Disk)
+    flush_failed_whole T e counts stays = record {
+      along = record { steps = fails T [] e counts stays; alone = λ tells. tt };
+      whole = whole_failed {T = T} [] e Disk stays;
+    }
+
+  -- a line was printed, or a part of it
+
+  module _ (cache : Cache W) (others : cache ≡ with_stable s.cache cache.stable) (kept : IsStore g s) (line : List ℕ) where
+    abbrev pub printed_store : Inside W
+    printed_store = record s { cache = cache }
 
     abbrev file_here : g.tells → IsFile g s.cache.stable
     file_here tells = ((running_here kept).along tells).file
 
-    pub tells_line : {T E : Type 0} (t : T) → Printed g {T = T} {E = E} (seen s) (seen told_store) line (Ok t) → Tells {T = T} (store g) line old (seen told_store) (Ok t)
-    tells_line t printed = subst (λ (state : StoreState W). Tells (store g) line state (seen told_store) (Ok t)) is
-        (tells_ok g (seen s) (seen told_store) line t file_here (running_here kept).quiet can_here printed)
+    pub prints_line : {T E : Type 0} (t : T) → PrintsBeside {T = T} {E = E} g line s.cache.stable cache.stable (Ok t) → PrintsPiece {T = T} (store g) line old (seen printed_store) (Ok t)
+    prints_line t printed = subst (λ (state : StoreState W). PrintsPiece (store g) line state (seen printed_store) (Ok t)) is
+        (prints_ok g (seen s) (seen printed_store) line t file_here (running_here kept).quiet can_here printed)
 
-    pub tells_part : {E : Type 0} (T : Type 0) (e : E) → Printed g {T = T} {E = E} (seen s) (seen told_store) line (Err e) → Tells {T = T} (store g) line old (seen told_store) (Err Print)
-    tells_part T e printed = subst (λ (state : StoreState W). Tells {T = T} (store g) line state (seen told_store) (Err Print)) is
-        (tells_err g (seen s) (seen told_store) line e file_here (running_here kept).quiet can_here printed)
+    pub prints_part : {E : Type 0} (T : Type 0) (e : E) → PrintsBeside {T = T} {E = E} g line s.cache.stable cache.stable (Err e) → PrintsPiece {T = T} (store g) line old (seen printed_store) (Err Print)
+    prints_part T e printed = subst (λ (state : StoreState W). PrintsPiece {T = T} (store g) line state (seen printed_store) (Err Print)) is
+        (prints_err g (seen s) (seen printed_store) line e file_here (running_here kept).quiet can_here printed)
 
-    pub whole_line : {T E : Type 0} (result : Result T E) → OnlyNow g s.cache.stable.world → Printed g (seen s) (seen told_store) line result → LeavesWhole g old (seen told_store) done
-    whole_line result only printed = subst (λ (state : StoreState W). LeavesWhole g state (seen told_store) done) is
-        (whole_told g (seen s) (seen told_store) line file_here (λ tells. ((running_told g s.cache world s.changes printed.keeps (running_here kept)).along tells).file) (running_here kept).quiet only printed.time)
+    pub whole_line : {T E : Type 0} (result : Result T E) → OnlyNow g s.cache.stable.world → PrintsBeside g line s.cache.stable cache.stable result → LeavesWhole g old (seen printed_store) done
+    whole_line result only printed = subst (λ (state : StoreState W). LeavesWhole g state (seen printed_store) done) is
+        (whole_printed g (seen s) (seen printed_store) line file_here (λ tells. (running.along tells).file) (running_here kept).quiet only printed.time)
+      where
+        running : IsRunning g cache s.changes
+        running = subst (λ (c : Cache W). IsRunning g c s.changes) (sym (printed_is g s.cache cache line result others printed)) (running_printed g s.cache cache.stable.world s.changes printed.keeps (running_here kept))
 
-pub store_told : {W : Type 0} (g : Ghosts W) (s : Inside W) (world : W) → Keeps (g.image s.cache.stable.world) (g.pending s.cache.stable.world) (g.image world) (g.pending world) → IsStore g s → IsStore g (record s { cache = with_world g s.cache world })
-store_told g s world keeps kept = record { shape = kept.shape; sound = λ is. running_told g s.cache world s.changes keeps (kept.sound is); closed = kept.closed }
+module _ {W : Type 0} (g : Ghosts W) where
+  pub store_printed : {T E : Type 0} (s : Inside W) (cache : Cache W) (line : List ℕ) (result : Result T E) → cache ≡ with_stable s.cache cache.stable → PrintsBeside g line s.cache.stable cache.stable result → IsStore g s → IsStore g (record s { cache = cache })
+  store_printed s cache line result others printed kept =
+      subst (λ (c : Cache W). IsStore g (record s { cache = c })) (sym (printed_is g s.cache cache line result others printed))
+      (record { shape = kept.shape; sound = λ is. running_printed g s.cache cache.stable.world s.changes printed.keeps (kept.sound is); closed = kept.closed })
 
 -- the image of a store with no change open stands for its contents
 pub stands_closed : {W : Type 0} (g : Ghosts W) (s : Inside W) → IsRunning g s.cache [] → g.tells → StandsNow g (seen s)

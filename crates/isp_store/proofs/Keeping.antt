@@ -13,12 +13,12 @@ use Rattle.isp_format.specs.Log.{log_bytes}
 use Rattle.isp_format.specs.Ranges.{cover, page_bytes}
 use Rattle.isp_format.proofs.Places.{before_end, from_start, inside, neither, not_first, not_second}
 use Rattle.isp_format.proofs.Puts.{puts_outside}
-use Rattle.isp_frames.specs.Cached.{IsCached, IsSteady, KeepsCache, StaysCached}
-use Rattle.isp_frames.specs.Held.{AreApart, AreBelow, IsHeldAt, page_places, pinned_places}
+use Rattle.isp_frames.specs.Cached.{IsCached, IsSteady, KeepsCache, StaysCached, with_pool}
+use Rattle.isp_frames.specs.Held.{AreApart, AreBelow, IsHeldAt, page_places, pinned_places, Holds}
 use Rattle.isp_frames.specs.declared.cache.Cache.{Cache}
 use Rattle.isp_frames.proofs.NowLaws.{edited_is, flagged_now, frame_below, pinned_clean, one_frame, pool_apart, set_apart, set_away, set_cases, set_here, some_is}
 use Rattle.isp_frames.proofs.PinLaws.{pinned_after, pinned_there}
-use Rattle.isp_frames.proofs.Staying.{kept_failed}
+use Rattle.isp_frames.proofs.StayLaws.{kept_failed}
 use Rattle.isp_mini.specs.Extents.{AreExtents, IsExtent, extent_cover, extent_place, largest_body, page_number, with_extent}
 use Rattle.isp_mini.specs.declared.changes.Extent.{Extent}
 use Rattle.isp_mini.proofs.ExtentLaws.{all_with, as_many_with, below_with, extents_with, one_longer_with}
@@ -28,7 +28,7 @@ use Rattle.isp_pool.specs.declared.frames.Frame.{Frame}
 use Rattle.isp_pool.proofs.StateLaws.{dirty_after, loaded_count}
 use Rattle.isp_redo.specs.declared.log.Log.{Log}
 use Rattle.isp_stable.specs.File.{flushed, placed}
-use Rattle.isp_stable.proofs.Files.{stands, stands_weaker}
+use Rattle.isp_stable.proofs.FileLaws.{stands, stands_weaker}
 use Rattle.isp_store.specs.Running.{AreFrames, IsAlong, IsPinnedIn, IsRunning, IsUnpinned, StaysRunning}
 
 -- The bytes of an extent lie in its page, which is pinned.
@@ -57,10 +57,6 @@ covered_pinned pool (extent ∷ extents) place each pinned out =
     beside : (b : Bool) → in_range (extent_place extent) (extent.end - extent.at) place ≡ b → b ≡ false
     beside true has = hit has
     beside false has = refl
-
--- the cache with other frames
-abbrev pub with_pool : {W : Type 0} → Cache W → PoolState → Cache W
-with_pool s pool = record s { pool = pool }
 
 module _ {W : Type 0} (g : Ghosts W) where
   -- a running store is a file whose pages are cached
@@ -357,3 +353,12 @@ module _ {W : Type 0} (g : Ghosts W) where
   running_held old new extents p i running held pool kept =
       running_kept g old new i extents running
       (frames_held old.stable.pages p i old.pool new.pool extents running.frames held pool (subst (λ (n : ℕ). AreBelow n new.pool.frames) kept.file.stable.shape.pages kept.file.steady.below)) kept
+
+-- a page that was changed is held
+pub pinned_holds : (s : PoolState) (extent : Extent) → IsPinnedIn s extent → Holds s extent.page
+pinned_holds s extent (i, frame, there, number, pinned) = (i, ap page_in there ∙ (λ j. Some (record { 0 = number j })))
+
+-- frames changed twice, and nothing else
+module _ {W : Type 0} where
+  pub others_twice : (old mid new : Cache W) → mid ≡ with_pool old mid.pool → new ≡ with_pool mid new.pool → new ≡ with_pool old new.pool
+  others_twice old mid new first second = second ∙ ap (λ (t : Cache W). with_pool t new.pool) first

@@ -1,8 +1,8 @@
-pub mod Passing
-pub mod Keeping
-pub mod Spelling
-pub mod Putting
-pub mod Settled
-pub mod Logged
-pub mod Fields
-pub mod Opened
+mod Passing
+mod Keeping
+mod Spelling
+mod Putting
+mod Cleaned
+mod Logged
+mod Fields
+mod Opened

@@ -1,13 +1,13 @@
 -- A store whose open mini-transaction went to the log.
-use Rattle.std.proofs.Common.{◌≡◌, inl, inr, ⊎_elim, ℕ, ◌+◌, ◌<◌, ◌≤◌, List, [], ◌∷◌, ◌++◌, Err, Ok, Result, length, refl, sym, ◌∙◌, ap, subst, arith}
+use Rattle.std.proofs.Common.{◌≡◌, inl, inr, ⊎_elim, ℕ, ◌+◌, ◌≤◌, List, [], ◌∷◌, ◌++◌, Err, Ok, Result, length, refl, sym, ◌∙◌, ap, subst, arith}
 use Rattle.std.specs.Prelude.{IsErr, OnOk}
 use Rattle.isp_disk.specs.declared.world.World.{Ghosts}
 use Rattle.isp_format.specs.Contents.{StandsFor, ranges_of}
-use Rattle.isp_format.specs.Log.{IsBody, Transaction, log_bytes, transaction_bytes}
+use Rattle.isp_format.specs.Log.{IsBody, Transaction, transaction_bytes}
 use Rattle.isp_format.specs.Ranges.{Contents, Range, puts}
 use Rattle.isp_format.proofs.Puts.{puts_append}
 use Rattle.isp_format.proofs.Standing.{stands_once}
-use Rattle.isp_frames.specs.Cached.{now}
+use Rattle.isp_frames.specs.Cached.{now, with_pool, with_stable}
 use Rattle.isp_frames.specs.Held.{AreClean, now_over}
 use Rattle.isp_frames.specs.declared.cache.Cache.{Cache}
 use Rattle.isp_frames.proofs.PageLaws.{lays_read}
@@ -17,15 +17,15 @@ use Rattle.isp_mini.proofs.BodyLaws.{body_fits}
 use Rattle.isp_mini.proofs.RangeLaws.{body_is, logged}
 use Rattle.isp_page.specs.Steps.{Or}
 use Rattle.isp_pool.specs.Frames.{PoolState}
-use Rattle.isp_stable.specs.File.{IsFile, KeepsStable, MakesLog, flushed, placed}
+use Rattle.isp_stable.specs.File.{HasBatches, HasRoomFor, IsFile, KeepsStable, MakesLog, flushed, placed}
 use Rattle.isp_stable.specs.declared.stable.Stable.{Stable}
-use Rattle.isp_stable.proofs.Files.{stands, stands_weaker}
-use Rattle.isp_stable.proofs.Moves.{ranges_more}
-use Rattle.isp_store.specs.Running.{AreFrames, IsAlong, IsRunning, IsUnpinned, StaysLogging}
+use Rattle.isp_stable.proofs.FileLaws.{stands, stands_weaker}
+use Rattle.isp_stable.proofs.ImageLaws.{ranges_more}
+use Rattle.isp_store.specs.Running.{AreFrames, IsAlong, IsRunning, IsUnpinned, LeavesFrames, StaysLogging}
 
 -- the body of a mini-transaction fits where the largest does
-pub fits : (end : ℕ) (body : List ℕ) (contents : Contents) (extents : List Extent) → AreExtents extents → body ≡ transaction_bytes (ranges_in contents extents) → end + 5 + largest_body < log_bytes → end + 5 + length body < log_bytes
-fits end body contents extents are is room =
+pub fits : {W : Type 0} (s : Stable W) (body : List ℕ) (contents : Contents) (extents : List Extent) → AreExtents extents → body ≡ transaction_bytes (ranges_in contents extents) → HasRoomFor s largest_body → HasRoomFor s (length body)
+fits s body contents extents are is room =
     let small : length body ≤ largest_body = subst (λ (bs : List ℕ). length bs ≤ largest_body) (sym is) (body_fits contents extents are) in
     omega (arith, room, small)
 
@@ -108,3 +108,44 @@ module _ {W : Type 0} (g : Ghosts W) where
             clean = un.clean (placed g new) (subst (AreClean s.pool.frames) (sym (same tells)) along.clean);
             differs = λ place out. (λ i. flushed_is i place) ∙ (λ i. sym now_is i place);
           }
+
+  -- the file with a batch more, under frames that were unpinned
+  module _ (s mid new : Cache W) (before : List Extent) (running : IsRunning g s before) (appended : mid ≡ with_stable s mid.stable) where
+    pool_same : mid.pool ≡ s.pool
+    pool_same = ap (λ (t : Cache W). t.pool) appended
+
+    pub frames_appended : mid.stable.pages ≡ s.stable.pages → AreFrames mid.stable.pages mid.pool before
+    frames_appended pages =
+        subst (λ (pool : PoolState). AreFrames mid.stable.pages pool before) (sym pool_same) (subst (λ (n : ℕ). AreFrames n s.pool before) (sym pages) running.frames)
+
+    -- it was not appended
+    pub stays_unlogged : {A B E : Type 0} (e : E) (result : Result B E) → IsErr result → KeepsStable {T = A} {E = E} g s.stable mid.stable (Err e) → Appends {T = A} {E = E} s before mid.stable (Err e) → StaysLogging g s mid [] result
+    stays_unlogged e result err kept appends = subst (λ (t : Cache W). StaysLogging g s t [] result) (sym appended) (logging_failed s mid.stable s.pool before e result err running kept appends)
+
+    pub unlogged_contents : placed g mid.stable ≡ placed g s.stable → now g mid ≡ now g s
+    unlogged_contents same = ap (λ (t : Cache W). now g t) appended ∙ ap (now_over s.pool.frames) same
+
+    pub unlogged_frames : LeavesFrames s.pool mid.pool
+    unlogged_frames = subst (λ (pool : PoolState). LeavesFrames s.pool pool) (sym pool_same) (record { held = λ i. refl; count = refl; dirty = refl })
+
+    -- it was
+    module _ (unpinned : IsUnpinned mid.stable.pages mid.pool new.pool []) (others : new ≡ with_pool mid new.pool) where
+      cache_is : new ≡ with_both s mid.stable new.pool
+      cache_is = others ∙ ap (λ (t : Cache W). with_pool t new.pool) appended
+
+      from_there : IsUnpinned mid.stable.pages s.pool new.pool []
+      from_there = subst (λ (pool : PoolState). IsUnpinned mid.stable.pages pool new.pool []) pool_same unpinned
+
+      module _ {T E : Type 0} where
+        pub stays_logged : (t : T) → KeepsStable {T = T} {E = E} g s.stable mid.stable (Ok t) → Appends {T = T} {E = E} s before mid.stable (Ok t) → (g.tells → placed g mid.stable ≡ placed g s.stable) → StaysLogging g {T = T} {E = E} s new [] (Ok t)
+        stays_logged t kept appends same = subst (λ (c : Cache W). StaysLogging g {T = T} {E = E} s c [] (Ok t)) (sym cache_is)
+            (stays_logging s mid.stable new.pool before (Ok t) running kept appends (running_logged s mid.stable new.pool before t running kept appends same from_there))
+
+      pub logged_contents : placed g mid.stable ≡ placed g s.stable → now g new ≡ now g s
+      logged_contents same = ap (λ (t : Cache W). now g t) cache_is ∙ from_there.now_is (placed g mid.stable) ∙ ap (now_over s.pool.frames) same
+
+      pub logged_batches : (batches : List (List Transaction)) → HasBatches g mid.stable batches → HasBatches g new.stable batches
+      logged_batches batches has = subst (λ (t : Cache W). HasBatches g t.stable batches) (sym others) has
+
+      pub logged_frames : LeavesFrames s.pool new.pool
+      logged_frames = record { held = from_there.held; count = from_there.count; dirty = from_there.dirty }

@@ -1,9 +1,9 @@
 -- What a stop leaves of a call of a store, out of what it leaves of the call's calls of the world.
 use Rattle.std.proofs.Common.{◌≡◌, ◌≢◌, inl, inr, ⊎_elim, true, false, ℕ, ◌≤◌, List, Result, Ok, Err, refl, sym, ◌∙◌, ap, subst}
+use Rattle.isp_disk.specs.Calls.{OnlyNow}
 use Rattle.isp_disk.specs.Moments.{Image, Agree, During, Elapses, Keeps, Quiet, no_place}
-use Rattle.isp_disk.specs.Outside.{HasCause, Prints}
 use Rattle.isp_disk.specs.declared.world.World.{Ghosts}
-use Rattle.isp_disk.proofs.Moments.{agree_self, goes_on}
+use Rattle.isp_disk.proofs.MomentLaws.{agree_self, goes_on}
 use Rattle.isp_format.specs.Contents.{StandsFor, ranges_of}
 use Rattle.isp_format.specs.Control.{IsControl, fanout_in, pages_in}
 use Rattle.isp_format.specs.Doublewrite.{area, doublewrite_gate, laid}
@@ -11,22 +11,22 @@ use Rattle.isp_format.specs.Log.{IsLog, log_of}
 use Rattle.isp_format.specs.Ranges.{Contents, puts}
 use Rattle.isp_format.proofs.Places.{neither}
 use Rattle.isp_format.proofs.Standing.{stands_once}
+use Rattle.isp_frames.specs.Cached.{with_stable}
 use Rattle.isp_frames.specs.Held.{AreClean, now_over}
 use Rattle.isp_frames.specs.declared.cache.Cache.{Cache}
 use Rattle.isp_frames.proofs.PageLaws.{lays_still, pages_same}
-use Rattle.isp_frames.proofs.Staying.{OnlyNow}
 use Rattle.isp_mini.specs.Extents.{extent_cover}
 use Rattle.isp_mini.specs.declared.changes.Extent.{Extent}
-use Rattle.isp_page.specs.Calls.{Continues, Makes, Tells}
-use Rattle.isp_page.specs.Steps.{AddsNone, LeavesAlone, LeftAs, LeftTelling, Or, Passes, done}
+use Rattle.isp_page.specs.Calls.{Continues, Makes, PrintsPiece}
+use Rattle.isp_page.specs.Steps.{AddsNone, LeavesAlone, LeftAs, LeftPrinting, Or, Passes, done}
 use Rattle.isp_page.specs.declared.fault.StoreFault.TheVariants.{Disk, Print}
-use Rattle.isp_stable.specs.File.{ArePagesOf, IsFile, KeepsShape, KeepsStable, StandsOnly, placed}
+use Rattle.isp_stable.specs.File.{ArePagesOf, IsFile, KeepsShape, KeepsStable, PrintsBeside, StandsOnly, placed}
 use Rattle.isp_stable.specs.declared.stable.Stable.{Stable}
-use Rattle.isp_stable.proofs.Files.{stands, stands_now}
-use Rattle.isp_stable.proofs.Moves.{laid_closed}
+use Rattle.isp_stable.proofs.FileLaws.{stands, stands_now}
+use Rattle.isp_stable.proofs.ImageLaws.{laid_closed}
 use Rattle.isp_store.specs.Calls.{LeavesWhole}
 use Rattle.isp_store.specs.Running.{IsRunning}
-use Rattle.isp_store.specs.State.{StoreState, clock, contents, left_since, may_leave, shape, store, told}
+use Rattle.isp_store.specs.State.{StoreState, clock, contents, left_since, may_leave, shape, store, printed}
 
 shape_is : {W : Type 0} (g : Ghosts W) (old new : StoreState W) → KeepsShape old.stable new.stable → shape g new ≡ shape g old
 shape_is g old new kept i = record { pages = kept.pages i; fanout = kept.fanout i }
@@ -41,15 +41,15 @@ module _ {W : Type 0} (g : Ghosts W) where
   could s left is = (g.image s.stable.world, agree_self (g.pending s.stable.world) (g.image s.stable.world), is)
 
   -- each stop within a call leaves contents that may be left
-  passes : (old new : StoreState W) (May Q : Contents → Type 0) → StandsOnly g old.stable new.stable.world May → ((left : Contents) → May left → Q left) → Passes (clock g) (left_since g) old new (LeftAs Q (shape g old) (told g old))
+  passes : (old new : StoreState W) (May Q : Contents → Type 0) → StandsOnly g old.stable new.stable.world May → ((left : Contents) → May left → Q left) → Passes (clock g) (left_since g) old new (LeftAs Q (shape g old) (printed g old))
   passes old new May Q leaves may = record {
     onward = leaves.later;
-    moments = λ t image told le since. ⊎_elim (λ before. inl before)
+    moments = λ t image printed le since. ⊎_elim (λ before. inl before)
         (λ has. inr (record {
           left = record { contents = has.0.contents; stands = has.0.stands; pages = has.0.pages; fanout = has.0.fanout; may_be = may has.0.contents has.0.has };
           silent = has.1;
         }))
-        (leaves.before t image told le since);
+        (leaves.before t image printed le since);
   }
 
   -- what a stop may leave after the call
@@ -135,8 +135,8 @@ module _ {W : Type 0} (g : Ghosts W) where
       stands_once moment.0 left (contents g s) moment.2 (subst (λ (image : Image). StandsFor image (contents g s)) same stood)
 
   -- the file behind a call that left its image
-  abbrev file_told : (s : Stable W) (world : W) → g.image world ≡ g.image s.world → IsFile g s → IsFile g (record s { world = world })
-  file_told s world same file = record {
+  abbrev file_printed : (s : Stable W) (world : W) → g.image world ≡ g.image s.world → IsFile g s → IsFile g (record s { world = world })
+  file_printed s world same file = record {
     control = subst IsControl (sym same) file.control;
     pages = ap pages_in same ∙ file.pages;
     fanout = ap fanout_in same ∙ file.fanout;
@@ -149,8 +149,8 @@ module _ {W : Type 0} (g : Ghosts W) where
   abbrev pub with_world : Cache W → W → Cache W
   with_world s world = record s { stable = record s.stable { world = world } }
 
-  pub running_told : (s : Cache W) (world : W) (extents : List Extent) → Keeps (g.image s.stable.world) (g.pending s.stable.world) (g.image world) (g.pending world) → IsRunning g s extents → IsRunning g (with_world s world) extents
-  running_told s world extents keeps running = record {
+  pub running_printed : (s : Cache W) (world : W) (extents : List Extent) → Keeps (g.image s.stable.world) (g.pending s.stable.world) (g.image world) (g.pending world) → IsRunning g s extents → IsRunning g (with_world s world) extents
+  running_printed s world extents keeps running = record {
     quiet = λ place. keeps.no_more place (running.quiet place);
     frames = running.frames;
     room = running.room;
@@ -159,35 +159,35 @@ module _ {W : Type 0} (g : Ghosts W) where
         let along = running.along tells in
         let same : area (g.image world) ≡ area (g.image s.stable.world) = ap area keeps.same in
         record {
-          file = file_told s.stable world keeps.same along.file;
+          file = file_printed s.stable world keeps.same along.file;
           clean = subst (AreClean s.pool.frames) (sym same) along.clean;
           differs = subst (λ (contents : Contents). Agree (extent_cover extents) (puts (ranges_of along.file.batches) contents) (now_over s.pool.frames contents)) (sym same) along.differs;
         };
   }
 
   -- a print leaves the pages as they stand
-  pub whole_told : (old new : StoreState W) (line : List ℕ) → (g.tells → IsFile g old.stable) → (g.tells → IsFile g new.stable) → Quiet (g.pending old.stable.world) → OnlyNow g old.stable.world
+  pub whole_printed : (old new : StoreState W) (line : List ℕ) → (g.tells → IsFile g old.stable) → (g.tells → IsFile g new.stable) → Quiet (g.pending old.stable.world) → OnlyNow g old.stable.world
       → Elapses (g.clock old.stable.world) (g.clock new.stable.world) (g.left_since old.stable.world) (g.left_since new.stable.world) (During (g.image old.stable.world) (g.pending old.stable.world) no_place (g.printed old.stable.world) line) → LeavesWhole g old new done
-  whole_told old new line file after quiet only time = record {
+  whole_printed old new line file after quiet only time = record {
     pages = λ tells.
-        goes_on g.clock g.left_since old.stable.world old.stable.world new.stable.world (λ left told. ArePagesOf (placed g old.stable) (contents g old) (laid left)) _ (lays_still g old.stable (contents g old) (file tells) quiet only) time
-        (λ left told during.
+        goes_on g.clock g.left_since old.stable.world old.stable.world new.stable.world (λ left printed. ArePagesOf (placed g old.stable) (contents g old) (laid left)) _ (lays_still g old.stable (contents g old) (file tells) quiet only) time
+        (λ left printed during.
         let same : g.image old.stable.world ≡ left = λ i place. during.agree place (neither (g.pending old.stable.world place) false (quiet place) refl) i in
         pages_same (placed g old.stable) (contents g old) (laid left) (ap laid (sym same) ∙ laid_closed (g.image old.stable.world) (file tells).closed));
     file = after;
   }
 
-  -- what a print tells, done or failed
+  -- a print, done or failed
 
-  tell_stops : (old new : StoreState W) → Keeps (g.image old.stable.world) (g.pending old.stable.world) (g.image new.stable.world) (g.pending new.stable.world) → AddsNone (may_leave g old) (may_leave g new)
-  tell_stops old new keeps left moment = (moment.0, (λ place out. (λ i. sym keeps.same i place) ∙ moment.1 place (keeps.no_more place out)), moment.2)
+  print_stops : (old new : StoreState W) → Keeps (g.image old.stable.world) (g.pending old.stable.world) (g.image new.stable.world) (g.pending new.stable.world) → AddsNone (may_leave g old) (may_leave g new)
+  print_stops old new keeps left moment = (moment.0, (λ place out. (λ i. sym keeps.same i place) ∙ moment.1 place (keeps.no_more place out)), moment.2)
 
-  tell_time : (old new : StoreState W) (line : List ℕ) → IsFile g old.stable → Quiet (g.pending old.stable.world)
+  print_time : (old new : StoreState W) (line : List ℕ) → IsFile g old.stable → Quiet (g.pending old.stable.world)
       → Elapses (g.clock old.stable.world) (g.clock new.stable.world) (g.left_since old.stable.world) (g.left_since new.stable.world) (During (g.image old.stable.world) (g.pending old.stable.world) no_place (g.printed old.stable.world) line)
-      → Passes (clock g) (left_since g) old new (LeftTelling (may_leave g old) (shape g old) (told g old) line)
-  tell_time old new line file quiet time = record {
+      → Passes (clock g) (left_since g) old new (LeftPrinting (may_leave g old) (shape g old) (printed g old) line)
+  print_time old new line file quiet time = record {
     onward = time.later;
-    moments = λ t image told le since. ⊎_elim (λ before. inl before)
+    moments = λ t image printed le since. ⊎_elim (λ before. inl before)
         (λ during.
         let left = stands_now g old.stable file image (λ place. during.agree place (neither (g.pending old.stable.world place) false (quiet place) refl)) in
         inr (record {
@@ -200,38 +200,36 @@ module _ {W : Type 0} (g : Ghosts W) where
           };
           part = during.part;
         }))
-        (time.nothing_else t image told le since);
+        (time.nothing_else t image printed le since);
   }
 
-  -- the print of a line, and how it ended
-  pub record Printed {T E : Type 0} (old new : StoreState W) (line : List ℕ) (result : Result T E) : Type 0 where
-    pub same_shape : KeepsShape old.stable new.stable
-    pub printed : g.tells → Prints (told g old) line (told g new) result
-    pub disk : g.disk_faults new.stable.world ≡ g.disk_faults old.stable.world
-    pub cause : HasCause (g.print_faults old.stable.world) (g.print_faults new.stable.world) result
-    pub keeps : Keeps (g.image old.stable.world) (g.pending old.stable.world) (g.image new.stable.world) (g.pending new.stable.world)
-    pub time : Elapses (g.clock old.stable.world) (g.clock new.stable.world) (g.left_since old.stable.world) (g.left_since new.stable.world) (During (g.image old.stable.world) (g.pending old.stable.world) no_place (g.printed old.stable.world) line)
+  shape_beside : (old new : Stable W) → new ≡ record old { world = new.world } → KeepsShape old new
+  shape_beside old new same = record { pages = ap (λ (s : Stable W). s.pages) same; fanout = ap (λ (s : Stable W). s.fanout) same }
 
-  pub tells_ok : {T E : Type 0} (old new : StoreState W) (line : List ℕ) (t : T) → (g.tells → IsFile g old.stable) → Quiet (g.pending old.stable.world) → new.is_usable ≡ true → Printed {T = T} {E = E} old new line (Ok t) → Tells {T = T} (store g) line old new (Ok t)
-  tells_ok old new line t file quiet sound done = record {
-    same_shape = shape_is g old new done.same_shape;
-    printed = λ tells. let printed = done.printed tells in record { whole = printed.whole; part = tt };
+  -- the cache behind a print
+  pub printed_is : {T E : Type 0} (s new : Cache W) (line : List ℕ) (result : Result T E) → new ≡ with_stable s new.stable → PrintsBeside g line s.stable new.stable result → new ≡ with_world s new.stable.world
+  printed_is s new line result others printed = others ∙ ap (λ (t : Stable W). with_stable s t) printed.same
+
+  pub prints_ok : {T E : Type 0} (old new : StoreState W) (line : List ℕ) (t : T) → (g.tells → IsFile g old.stable) → Quiet (g.pending old.stable.world) → new.is_usable ≡ true → PrintsBeside {T = T} {E = E} g line old.stable new.stable (Ok t) → PrintsPiece {T = T} (store g) line old new (Ok t)
+  prints_ok old new line t file quiet sound done = record {
+    same_shape = shape_is g old new (shape_beside old.stable new.stable done.same);
+    prints = λ tells. let line = done.prints tells in record { whole = line.whole; part = tt };
     disk = done.disk;
     cause = record { later = done.cause.later; steady = done.cause.steady; failed = tt };
     by_print = tt;
     can = sound;
-    stops = λ tells. tell_stops old new done.keeps;
-    time = λ tells. tell_time old new line (file tells) quiet done.time;
+    stops = λ tells. print_stops old new done.keeps;
+    time = λ tells. print_time old new line (file tells) quiet done.time;
   }
 
-  pub tells_err : {T E : Type 0} (old new : StoreState W) (line : List ℕ) (e : E) → (g.tells → IsFile g old.stable) → Quiet (g.pending old.stable.world) → new.is_usable ≡ true → Printed {T = T} {E = E} old new line (Err e) → Tells {T = T} (store g) line old new (Err Print)
-  tells_err old new line e file quiet sound done = record {
-    same_shape = shape_is g old new done.same_shape;
-    printed = λ tells. let printed = done.printed tells in record { whole = tt; part = printed.part };
+  pub prints_err : {T E : Type 0} (old new : StoreState W) (line : List ℕ) (e : E) → (g.tells → IsFile g old.stable) → Quiet (g.pending old.stable.world) → new.is_usable ≡ true → PrintsBeside {T = T} {E = E} g line old.stable new.stable (Err e) → PrintsPiece {T = T} (store g) line old new (Err Print)
+  prints_err old new line e file quiet sound done = record {
+    same_shape = shape_is g old new (shape_beside old.stable new.stable done.same);
+    prints = λ tells. let line = done.prints tells in record { whole = tt; part = line.part };
     disk = done.disk;
     cause = record { later = done.cause.later; steady = tt; failed = done.cause.failed };
     by_print = refl;
     can = sound;
-    stops = λ tells. tell_stops old new done.keeps;
-    time = λ tells. tell_time old new line (file tells) quiet done.time;
+    stops = λ tells. print_stops old new done.keeps;
+    time = λ tells. print_time old new line (file tells) quiet done.time;
   }

@@ -1,5 +1,5 @@
 -- A running store whose open mini-transaction put bytes into a page.
-use Rattle.std.proofs.Common.{◌≡◌, ◌⊎◌, inl, inr, ⊎_elim, ℕ, ◌+◌, ◌*◌, ◌<◌, ◌≤◌, Bool, true, false, List, Option, Some, None, length, refl, sym, ◌∙◌, ap, subst, arith}
+use Rattle.std.proofs.Common.{◌≡◌, ◌⊎◌, inl, inr, ⊎_elim, ℕ, ◌+◌, ◌*◌, ◌<◌, ◌≤◌, Bool, true, false, List, Ok, Option, Some, None, length, refl, sym, ◌∙◌, ap, subst, arith}
 use Rattle.std.specs.Prelude.{cond, nat_lt}
 use Rattle.std.specs.List.{position, position_or_len}
 use Rattle.std.specs.Option.{is_none, option_or}
@@ -8,25 +8,28 @@ use Rattle.std.proofs.lemmas.List.Quantifiers.{position-Some}
 use Rattle.std.proofs.lemmas.List.Sums.{fails_before_first}
 use Rattle.std.proofs.lemmas.Bool.Decides.{nat_tests}
 use Rattle.isp_disk.specs.Moments.{put}
+use Rattle.isp_disk.specs.declared.world.Failed.{Failed}
 use Rattle.isp_disk.specs.declared.world.World.{Ghosts}
 use Rattle.isp_format.specs.Log.{log_bytes}
 use Rattle.isp_format.specs.Ranges.{Contents, page_bytes}
-use Rattle.isp_frames.specs.Cached.{now}
-use Rattle.isp_frames.specs.Held.{AreApart, AreClean, IsHeldAt, now_over}
+use Rattle.isp_redo.specs.declared.log.Log.{Log}
+use Rattle.isp_frames.specs.Cached.{PutsBytes, now, with_pool}
+use Rattle.isp_frames.specs.Held.{AreApart, AreClean, EditsPage, IsHeldAt, now_over}
 use Rattle.isp_frames.specs.declared.cache.Cache.{Cache}
-use Rattle.isp_frames.proofs.NowLaws.{changed_clean, changed_now, edited_is, flagged_now, frame_below, overwrite, pinned_clean, set_here, some_is}
+use Rattle.isp_frames.proofs.HeldLaws.{held_page, holding}
+use Rattle.isp_frames.proofs.StayLaws.{kept_ok}
+use Rattle.isp_frames.proofs.NowLaws.{changed_clean, changed_now, edited_is, flagged_now, frame_below, overwrite, pinned_clean, set_here}
 use Rattle.isp_mini.specs.Extents.{largest_body, with_extent}
 use Rattle.isp_mini.specs.declared.changes.Extent.{Extent}
 use Rattle.isp_mini.proofs.ExtentLaws.{change_agrees}
 use Rattle.isp_base.specs.declared.page_no.PageNo.{PageNo}
 use Rattle.isp_pool.specs.Frames.{PoolState, changed, frame_at, frame_in, is_held, is_unpinned, loaded, page_of as page_in, victim_of, with_frame}
 use Rattle.isp_pool.specs.declared.frames.Frame.{Frame}
-use Rattle.isp_pool.proofs.PoolLaws.{length-overwritten}
-use Rattle.isp_pool.proofs.StateLaws.{edited_count, edited_other, loaded_count, loaded_here, loaded_other}
+use Rattle.isp_pool.proofs.StateLaws.{edited_count, edited_other, length-overwritten, loaded_count, loaded_here, loaded_other}
 use Rattle.isp_recency.specs.Recent.{last_where}
-use Rattle.isp_stable.specs.File.{flushed, placed}
-use Rattle.isp_store.specs.Running.{AreAllHeld, AreFrames, HoldSame, IsAlong, IsFree, IsHeldAfter, IsRunning}
-use Rattle.isp_store.proofs.Keeping.{IsSame, frames_edited, frames_pinned, with_pool, with_set}
+use Rattle.isp_stable.specs.File.{HasRoomFor, flushed, placed}
+use Rattle.isp_store.specs.Running.{AreAllHeld, AreFrames, HoldSame, IsAlong, IsFree, IsHeldAfter, IsRunning, StaysRunning}
+use Rattle.isp_store.proofs.Keeping.{IsSame, cached_of, frames_edited, frames_pinned, running_held, stays_kept, with_set}
 
 -- an edit of a frame that holds a page sets it
 pub with_is : (s : PoolState) (i : ℕ) (f : Frame) (edit : Frame → Frame) → frame_at s i ≡ Some f → with_frame s i edit ≡ with_set s i (edit f)
@@ -63,14 +66,6 @@ now_put s i at bytes f placed apart there fits =
 pub clean_put : (s : PoolState) (i at : ℕ) (bytes : List ℕ) (f : Frame) (placed : Contents) → frame_at s i ≡ Some f → AreClean s.frames placed → AreClean (with_bytes s i at bytes).frames placed
 clean_put s i at bytes f placed there clean =
     pinned_clean (changed s i at bytes).frames placed i (overwrite at bytes f) true (put_there s i at bytes f there) (changed_clean s.frames placed i at bytes f there clean)
-
--- the page and the frame of one that holds it
-pub holding : (s : PoolState) (i : ℕ) (p : PageNo) → page_in (frame_at s i) ≡ Some p → (f : Frame) × (frame_at s i ≡ Some f) × (f.page ≡ p)
-holding s i p is = of (frame_at s i) refl is
-  where
-    of : (o : Option Frame) → frame_at s i ≡ o → page_in o ≡ Some p → (f : Frame) × (frame_at s i ≡ Some f) × (f.page ≡ p)
-    of None there number = absurd (cc)
-    of (Some f) there number = (f, there, some_is f.page p number)
 
 -- The page is held.
 
@@ -118,12 +113,6 @@ held_after p i old new held = ⊎_elim
     })
     held
 
-pub page_here : (p : PageNo) (i : ℕ) (old new : PoolState) → IsHeldAt p i old new → page_in (frame_at new i) ≡ Some p
-page_here p i old new held = ⊎_elim
-    (λ here. ap (λ (s : PoolState). page_in (frame_at s i)) here.1 ∙ here.0)
-    (λ read. ap (λ (s : PoolState). page_in (frame_at s i)) read.5 ∙ ap page_in (loaded_here old i p read.0 read.4))
-    held
-
 -- after it the same pages stand in the same frames
 pub held_still : (p : PageNo) (old mid new : PoolState) → IsHeldAfter p old mid → length new.frames ≡ length mid.frames → HoldSame mid new → IsHeldAfter p old new
 held_still p old mid new held count same = record {
@@ -138,10 +127,10 @@ no_page_free : (o : Option Frame) → page_in o ≡ None → o ≡ None
 no_page_free None is = refl
 no_page_free (Some f) is = absurd (cc)
 
-held_page : (one other : Option Frame) → page_in one ≡ page_in other → is_held one ≡ true → is_held other ≡ true
-held_page None other same is = absurd (false≢true is)
-held_page (Some f) None same is = absurd (cc)
-held_page (Some f) (Some h) same is = refl
+held_too : (one other : Option Frame) → page_in one ≡ page_in other → is_held one ≡ true → is_held other ≡ true
+held_too None other same is = absurd (false≢true is)
+held_too (Some f) None same is = absurd (cc)
+held_too (Some f) (Some h) same is = refl
 
 -- before it
 pub still_held : (p : PageNo) (old mid new : PoolState) → length mid.frames ≡ length old.frames → HoldSame old mid → IsHeldAfter p mid new → IsHeldAfter p old new
@@ -157,7 +146,7 @@ still_held p old mid new count same held = record {
     back k is = no_page_free (frame_at old k) (sym (same k) ∙ ap page_in is)
 
     still : (k : ℕ) → is_held (frame_at mid k) ≡ true → is_held (frame_at old k) ≡ true
-    still k is = held_page (frame_at mid k) (frame_at old k) (same k) is
+    still k is = held_too (frame_at mid k) (frame_at old k) (same k) is
 
 pub put_holds : (s : PoolState) (i at : ℕ) (bytes : List ℕ) (f : Frame) → frame_at s i ≡ Some f → HoldSame s (with_bytes s i at bytes)
 put_holds s i at bytes f there k = ⊎_elim
@@ -185,7 +174,7 @@ module _ {W : Type 0} (g : Ghosts W) where
 
   -- a running store after bytes were put into the frame that holds the page
   pub running_put : (s : Cache W) (new : PoolState) (extents noted : List Extent) (p : PageNo) (i at : ℕ) (bytes : List ℕ) → IsRunning g s extents
-      → page_in (frame_at s.pool i) ≡ Some p → new ≡ with_bytes s.pool i at bytes → noted ≡ with_extent p at (at + length bytes) extents → 1 ≤ length bytes → at + length bytes ≤ page_bytes → length (with_extent p at (at + length bytes) extents) ≤ 48 → s.stable.log.end + 5 + largest_body < log_bytes
+      → page_in (frame_at s.pool i) ≡ Some p → new ≡ with_bytes s.pool i at bytes → noted ≡ with_extent p at (at + length bytes) extents → 1 ≤ length bytes → at + length bytes ≤ page_bytes → length (with_extent p at (at + length bytes) extents) ≤ 48 → HasRoomFor s.stable largest_body
       → IsRunning g (with_pool s new) noted
   running_put s new extents noted p i at bytes running here put_is noted_is some fits few room =
       let are = running.frames in
@@ -208,3 +197,50 @@ module _ {W : Type 0} (g : Ghosts W) where
       let f = holding s i p here in
       ap (λ (n : PoolState). now_over n.frames placed) put_is ∙ now_put s i at bytes f.0 placed apart f.1 fits
       ∙ ap (λ (q : PageNo). put (now_over s.frames placed) (q.0 * page_bytes + at) bytes) f.2
+
+  -- bytes were put into a page, which was pinned then
+  module _ (old mid new : Cache W) (p : PageNo) (at : ℕ) (bytes : List ℕ) (did : PutsBytes g p at bytes old mid) where
+    its_frame : (f : Frame) × (frame_at did.held.pool did.frame ≡ Some f) × (f.page ≡ p)
+    its_frame = holding did.held.pool did.frame p (held_page p did.frame old.pool did.held.pool did.is_held)
+
+    pub stands_there : page_in (frame_at mid.pool did.frame) ≡ Some p
+    stands_there =
+        ap (λ (t : Cache W). page_in (frame_at t.pool did.frame)) did.new_is
+        ∙ ap page_in (put_there did.held.pool did.frame at bytes its_frame.0 its_frame.1)
+        ∙ ap (λ (q : PageNo). Some q) its_frame.2
+
+    module _ (others : new ≡ with_pool mid new.pool) (pinned : EditsPage p pin mid.pool new.pool) where
+      pool_is : new.pool ≡ with_bytes did.held.pool did.frame at bytes
+      pool_is = pinned did.frame stands_there ∙ ap (λ (t : Cache W). with_frame t.pool did.frame pin) did.new_is
+
+      cache_is : new ≡ with_pool did.held new.pool
+      cache_is = others ∙ ap (λ (t : Cache W). with_pool t new.pool) did.new_is
+
+      pub pinned_file : new.stable ≡ mid.stable
+      pinned_file = ap (λ (t : Cache W). t.stable) others
+
+      pub pinned_after : IsHeldAfter p old.pool new.pool
+      pinned_after =
+          held_still p old.pool did.held.pool new.pool (held_after p did.frame old.pool did.held.pool did.is_held)
+          (ap (λ (s : PoolState). length s.frames) pool_is ∙ put_count did.held.pool did.frame at bytes)
+          (λ k. ap (λ (s : PoolState). page_in (frame_at s k)) pool_is ∙ put_holds did.held.pool did.frame at bytes its_frame.0 its_frame.1 k)
+
+      module _ (extents : List Extent) (running : IsRunning g old extents) where
+        running_there : IsRunning g did.held extents
+        running_there = running_held g old did.held extents p did.frame running did.is_held did.frames did.kept
+
+        pub pinned_contents : at + length bytes ≤ page_bytes → g.tells → now g new ≡ put (now g old) (p.0 * page_bytes + at) bytes
+        pinned_contents fits tells =
+            let stays = did.kept.stays tells (cached_of g old extents running.frames (running.along tells)) in
+            ap (λ (t : Cache W). now g t) cache_is
+            ∙ contents_put (placed g did.held.stable) did.held.pool new.pool p did.frame at bytes running_there.frames.apart
+            (held_page p did.frame old.pool did.held.pool did.is_held) pool_is fits
+            ∙ ap (λ (contents : Contents). put contents (p.0 * page_bytes + at) bytes) stays.after.contents_are
+
+        pub pinned_stays : (noted : List Extent) → noted ≡ with_extent p at (at + length bytes) extents → 1 ≤ length bytes → at + length bytes ≤ page_bytes → length (with_extent p at (at + length bytes) extents) ≤ 48
+            → HasRoomFor old.stable largest_body → StaysRunning g {T = Unit {0}} {E = Failed} old new noted (Ok tt)
+        pinned_stays noted noted_is some fits few room =
+            let log : HasRoomFor did.held.stable largest_body = subst (λ (l : Log). l.end + 5 + largest_body < log_bytes) (sym did.kept.log) room in
+            subst (λ (t : Cache W). StaysRunning g {T = Unit {0}} {E = Failed} old t noted (Ok tt)) (sym cache_is)
+            (stays_kept g old did.held new.pool extents noted (Ok tt) running (kept_ok g old did.held did.frame tt did.kept)
+            (running_put did.held new.pool extents noted p did.frame at bytes running_there (held_page p did.frame old.pool did.held.pool did.is_held) pool_is noted_is some fits few log))

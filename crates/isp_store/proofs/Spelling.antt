@@ -6,7 +6,7 @@ use Rattle.isp_frames.proofs.NowLaws.{now_page, some_is}
 use Rattle.isp_mini.specs.Extents.{IsExtent, range_in}
 use Rattle.isp_mini.specs.declared.changes.Extent.{Extent}
 use Rattle.isp_mini.proofs.RangeLaws.{page_piece}
-use Rattle.isp_page.specs.declared.page.Page.{Page}
+use Rattle.isp_format.specs.declared.page.Page.{Page}
 use Rattle.isp_base.specs.declared.page_no.PageNo.{PageNo}
 use Rattle.isp_pool.specs.Frames.{PoolState, content_of, frame_at, page_of as page_in}
 use Rattle.isp_pool.specs.declared.frames.Frame.{Frame}

@@ -3,7 +3,7 @@ use Rattle.std.specs.Prelude.{◌≡◌, ℕ, [], Result, Ok, Err, length}
 use Rattle.isp_disk.specs.declared.world.World.{Ghosts}
 use Rattle.isp_format.specs.Contents.{StandsFor}
 use Rattle.isp_format.specs.Control.{IsFanout, IsPages, fanout_in, pages_in}
-use Rattle.isp_frames.specs.Cached.{IsSettled, now}
+use Rattle.isp_frames.specs.Cached.{IsCheckpoint, now}
 use Rattle.isp_frames.specs.declared.cache.Cache.{Cache}
 use Rattle.isp_page.specs.declared.fault.StoreFault.{StoreFault}
 use Rattle.isp_store.specs.Running.{IsRunning}
@@ -11,7 +11,7 @@ use Rattle.isp_store.specs.Running.{IsRunning}
 module _ {W : Type 0} (g : Ghosts W) where
   pub record IsRecovered (old : W) (frames : ℕ) (s : Cache W) : Type 0 where
     pub running : IsRunning g s []
-    pub settled : IsSettled g s
+    pub checkpoint : IsCheckpoint g s
     pub count : length s.pool.frames ≡ frames
     pub possible : IsPages s.stable.pages × IsFanout s.stable.fanout
     pub steady : g.disk_faults s.stable.world ≡ g.disk_faults old

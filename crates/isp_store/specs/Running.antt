@@ -1,9 +1,9 @@
 -- What holds of a store between two calls while no call of the disk has failed, and what each call leaves of it.
-use Rattle.std.specs.Prelude.{◌≡◌, ◌≢◌, ◌⊎◌, ℕ, ◌+◌, ◌<◌, ◌≤◌, true, All, List, [], Result, OnOk, length, count_by, vec_capacity, Some, None}
+use Rattle.std.specs.Prelude.{◌≡◌, ◌≢◌, ◌⊎◌, ℕ, ◌<◌, ◌≤◌, true, All, List, [], Result, OnOk, length, count_by, vec_capacity, Some, None}
 use Rattle.isp_disk.specs.Moments.{Agree, Quiet}
 use Rattle.isp_disk.specs.declared.world.World.{Ghosts}
 use Rattle.isp_format.specs.Contents.{StandsFor}
-use Rattle.isp_format.specs.Log.{log_bytes}
+use Rattle.isp_format.specs.Doublewrite.{most_copies}
 use Rattle.isp_format.specs.Ranges.{Contents}
 use Rattle.isp_frames.specs.Cached.{now}
 use Rattle.isp_frames.specs.Held.{AreApart, AreBelow, AreClean, now_over}
@@ -14,7 +14,7 @@ use Rattle.isp_page.specs.Steps.{Or}
 use Rattle.isp_base.specs.declared.page_no.PageNo.{PageNo}
 use Rattle.isp_pool.specs.Frames.{PoolState, frame_at, is_dirty, is_held, is_pinned, page_of as page_in}
 use Rattle.isp_pool.specs.declared.frames.Frame.{Frame}
-use Rattle.isp_stable.specs.File.{ArePagesOf, IsFile, KeepsStable, LaysOnly, StandsOnly, flushed, placed}
+use Rattle.isp_stable.specs.File.{ArePagesOf, HasRoomFor, IsFile, KeepsStable, LaysOnly, StandsOnly, flushed, placed}
 
 -- a page that was changed stands in a frame, and is pinned there
 abbrev pub IsPinnedIn : PoolState → Extent → Type 0
@@ -22,7 +22,7 @@ IsPinnedIn pool extent = (i : ℕ) × (frame : Frame) × (frame_at pool i ≡ So
 
 -- The frames hold pages of the file; the pinned ones are those that the open mini-transaction changed.
 pub record AreFrames (pages : ℕ) (pool : PoolState) (open_ranges : List Extent) : Type 0 where
-  pub many : 64 ≤ length pool.frames
+  pub many : most_copies ≤ length pool.frames
   pub apart : AreApart pool.frames
   pub below : AreBelow pages pool.frames
   pub pins : count_by is_pinned pool.frames ≤ length open_ranges
@@ -68,9 +68,9 @@ module _ {W : Type 0} (g : Ghosts W) where
     pub quiet : Quiet (g.pending s.stable.world)
     pub frames : AreFrames s.stable.pages s.pool open_ranges
     -- the log has room for the largest body
-    pub room : open_ranges ≢ [] → s.stable.log.end + 5 + largest_body < log_bytes
+    pub room : open_ranges ≢ [] → HasRoomFor s.stable largest_body
     -- there is room for a batch of 64 pages
-    pub batch : 64 ≤ vec_capacity s.batch
+    pub batch : most_copies ≤ vec_capacity s.batch
     pub along : g.tells → IsAlong s open_ranges
 
   -- What stays of a running store, whose open mini-transaction has these ranges at an Ok. At each stop within the call each

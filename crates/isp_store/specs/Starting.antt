@@ -1,5 +1,5 @@
 -- A store that was started: where it stands, and why it was not.
-use Rattle.std.specs.Prelude.{◌≡◌, ℕ, true, Result, Ok, Err, length}
+use Rattle.std.specs.Prelude.{◌≡◌, ℕ, true, Result, Ok, Err}
 use Rattle.isp_disk.specs.declared.world.World.{Ghosts}
 use Rattle.isp_format.specs.Contents.{StandsFor}
 use Rattle.isp_format.specs.Control.{fanout_in, pages_in}
@@ -9,7 +9,7 @@ use Rattle.isp_page.specs.Steps.{LeavesAlone}
 use Rattle.isp_page.specs.declared.fault.Fault.{Fault}
 use Rattle.isp_page.specs.declared.fault.Fault.TheVariants as fault
 use Rattle.isp_store.specs.Calls.{IsAllInPlace}
-use Rattle.isp_store.specs.State.{StoreState, contents, dirty, may_leave, mini}
+use Rattle.isp_store.specs.State.{StoreState, contents, dirty, frames_of, may_leave, mini}
 
 module _ {W : Type 0} (g : Ghosts W) where
   -- it can be used, no mini-transaction is begun, no page is dirty, there are so many frames, and no call failed
@@ -17,7 +17,7 @@ module _ {W : Type 0} (g : Ghosts W) where
     pub can : s.is_usable ≡ true
     pub mini_is : mini g s ≡ none_begun
     pub clean : dirty g s ≡ 0
-    pub frames_are : length s.pool.frames ≡ frames
+    pub frames_are : frames_of s ≡ frames
     pub steady : g.disk_faults s.stable.world ≡ g.disk_faults old
 
   -- its contents and its shape are those of the image that was opened, and a stop leaves them alone

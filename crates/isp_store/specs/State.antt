@@ -1,5 +1,5 @@
 -- A store of pages as its calls see it: the file, the frames over it, and the mini-transaction that is begun.
-use Rattle.std.specs.Prelude.{ℕ, Bool, List, map, count_by}
+use Rattle.std.specs.Prelude.{ℕ, Bool, List, length, map, count_by}
 use Rattle.isp_disk.specs.Moments.{Image, Agree}
 use Rattle.isp_disk.specs.declared.world.World.{Ghosts}
 use Rattle.isp_format.specs.Contents.{StandsFor}
@@ -22,6 +22,10 @@ pub record StoreState (W : Type 0) : Type 0 where
   -- no call of the disk has failed
   pub is_usable : Bool
 
+-- how many frames there are
+abbrev pub frames_of : {W : Type 0} → StoreState W → ℕ
+frames_of s = length s.pool.frames
+
 module _ {W : Type 0} (g : Ghosts W) where
   -- the contents of all pages now
   abbrev pub contents : StoreState W → Contents
@@ -33,10 +37,10 @@ module _ {W : Type 0} (g : Ghosts W) where
 
   -- what a stop since a time might have left: the world's own moments
   abbrev pub left_since : StoreState W → ℕ → Image → List ℕ → Type 0
-  left_since s t image told = g.left_since s.stable.world t image told
+  left_since s t image printed = g.left_since s.stable.world t image printed
 
-  abbrev pub told : StoreState W → List ℕ
-  told s = g.printed s.stable.world
+  abbrev pub printed : StoreState W → List ℕ
+  printed s = g.printed s.stable.world
 
   abbrev pub clock : StoreState W → ℕ
   clock s = g.clock s.stable.world
@@ -61,7 +65,7 @@ module _ {W : Type 0} (g : Ghosts W) where
   store = record {
     tells = g.tells;
     contents = contents;
-    told = told;
+    printed = printed;
     may_leave = may_leave;
     clock = clock;
     left_since = left_since;

@@ -1,22 +1,22 @@
 //! Bytes put into a page, by the mini-transaction that is begun.
-ghost use Rattle.std.specs.Prelude.{◌≡◌, ◌≢◌, ℕ, ◌*◌, ◌+◌, ◌<◌, ◌≤◌, [], true, Some, OnOk, length};
+ghost use Rattle.std.specs.Prelude.{◌≡◌, ◌≢◌, ℕ, ◌*◌, ◌+◌, ◌<◌, ◌≤◌, [], Some, OnOk, length};
 ghost use Rattle.isp_disk.specs.Moments.{put};
-ghost use Rattle.isp_format.specs.Log.{log_bytes};
 ghost use Rattle.isp_format.specs.Ranges.{page_bytes};
 ghost use Rattle.isp_frames.specs.Cached.{now};
 ghost use Rattle.isp_mini.specs.Extents.{largest_body, with_extent};
 ghost use Rattle.isp_page.specs.State.{most_changed};
-ghost use Rattle.isp_pool.specs.Frames.{changed, frame_at, is_held, page_of as page_in, with_frame};
+ghost use Rattle.isp_pool.specs.Frames.{frame_at, page_of as page_in};
+ghost use Rattle.isp_stable.specs.File.{HasRoomFor};
 ghost use Rattle.isp_store.specs.Running.{IsHeldAfter, IsRunning, StaysRunning};
 
-use crate::settling::find_room;
+use crate::cleaning::find_room;
 use isp_disk::{Failed, World};
+use isp_format::PageNo;
 use isp_frames::Cache;
 use isp_mini::Changes;
-use isp_page::PageNo;
-use isp_pool::Pool;
 
-/// Puts bytes into a page from `at` on, and pins it. The log has room for the mini-transaction.
+/// Puts bytes into a page from `at` on, and pins it, so that it isn't evicted before they are in the log. The log has room for
+/// the mini-transaction.
 pub(crate) fn put_bytes<W: World>(
     cache: &mut Cache<W>,
     changes: &mut Changes,
@@ -29,7 +29,7 @@ pub(crate) fn put_bytes<W: World>(
     requires some { 1 ≤ length bytes.now }
     requires inside { at + length bytes.now ≤ page_bytes }
     requires most { length (with_extent p at (at + length bytes.now) changes.old) ≤ most_changed }
-    requires log { cache.old.stable.log.end + 5 + largest_body < log_bytes }
+    requires log { HasRoomFor cache.old.stable largest_body }
     ensures kept { StaysRunning W.World cache.old cache.new changes.new result }
     ensures changes { OnOk result (changes.new
         ≡ with_extent p at (at + length bytes.now) changes.old) }
@@ -39,22 +39,10 @@ pub(crate) fn put_bytes<W: World>(
     ensures untouched { (i : ℕ) → page_in (frame_at cache.old.pool i) ≡ Some p
         → cache.new.stable ≡ cache.old.stable }
 {
-    let frame = cache.hold(p)?;
-    prove!(frame < cache.pool.frames());
-    write_pinned(&mut cache.pool, frame, at, bytes);
+    cache.change(p, at, bytes)?;
+    cache.pin(p);
     changes.note(p, at, bytes.len() as u16);
     Ok(())
-}
-
-// Writes bytes into the page in a frame, which may not be evicted before they are in the log.
-fn write_pinned(pool: &mut Pool, frame: usize, at: u16, bytes: &[u8])
-    requires held { is_held (frame_at pool.old frame) ≡ true }
-    requires inside { at + length bytes.now ≤ page_bytes }
-    ensures { pool.new
-        ≡ with_frame (changed pool.old frame at bytes.now) frame (λ f. record f { pinned = true }) }
-{
-    pool.change(frame, at, bytes);
-    pool.pin(frame);
 }
 
 /// Puts bytes into a page from `at` on, and pins it. The first change of a mini-transaction finds room in the log.

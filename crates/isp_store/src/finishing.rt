@@ -26,9 +26,9 @@ pub(crate) fn log_changes<W: World>(
         (file.batches ++ (ranges_in (now W.World cache.old) changes.old ∷ []) ∷ [])) }
     ensures frames { LeavesFrames cache.old.pool cache.new.pool }
 {
-    spell(&cache.pool, changes.extents(), body);
-    cache.stable.append(body.as_slice())?;
-    unpin_all(&mut cache.pool, changes.extents(), cache.stable.pages);
+    spell(cache.pool(), changes.extents(), body);
+    cache.append(body.as_slice())?;
+    unpin_all(cache, changes.extents());
     changes.clear();
     Ok(())
 }

@@ -2,10 +2,10 @@
 #![tactic(auto)]
 
 mod changing;
+mod cleaning;
 mod finishing;
 mod logging;
 mod reading;
-mod settling;
 mod starting;
 mod store;
 

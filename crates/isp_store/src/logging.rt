@@ -2,13 +2,16 @@
 ghost use Rattle.std.specs.Prelude.{◌≡◌, ℕ, ◌-◌, ◌+◌, ◌≤◌, ◌++◌, [], false, All, Some, drop, length, take};
 ghost use Rattle.isp_format.specs.Log.{range_bytes, transaction_bytes};
 ghost use Rattle.isp_format.specs.Ranges.{Contents};
+ghost use Rattle.isp_frames.specs.Cached.{with_pool};
 ghost use Rattle.isp_frames.specs.Held.{AreApart, now_over};
 ghost use Rattle.isp_mini.specs.Extents.{AreExtents, IsExtent, largest_body, range_in, ranges_in};
 ghost use Rattle.isp_pool.specs.Frames.{frame_at, page_of as page_in, with_frame};
 ghost use Rattle.isp_store.specs.Running.{AreFrames, IsPinnedIn, IsUnpinned};
 
+use isp_disk::World;
+use isp_format::Page;
+use isp_frames::Cache;
 use isp_mini::{Body, Extent};
-use isp_page::Page;
 use isp_pool::Pool;
 
 /// Spells the mini-transaction that changed these extents: of each page the bytes that stand in its frame now.
@@ -60,21 +63,22 @@ fn frame_of(pool: &Pool, extent: &Extent) -> usize
 }
 
 /// Unpins the pages of these extents, which are all that are pinned.
-pub(crate) fn unpin_all(pool: &mut Pool, extents: &[Extent], pages: u32)
-    requires { AreFrames pages pool.old extents.now }
-    ensures { IsUnpinned pages pool.old pool.new [] }
+pub(crate) fn unpin_all<W: World>(cache: &mut Cache<W>, extents: &[Extent])
+    requires { AreFrames cache.old.stable.pages cache.old.pool extents.now }
+    ensures pool { IsUnpinned cache.old.stable.pages cache.old.pool cache.new.pool [] }
+    ensures others { cache.new ≡ with_pool cache.old cache.new.pool }
 {
     for extent in extents {
-        unpin_page(pool, extent);
+        unpin_page(cache, extent);
     }
 }
 
 // Unpins the page of an extent.
-fn unpin_page(pool: &mut Pool, extent: &Extent)
-    requires { IsPinnedIn pool.old extent.now }
-    ensures { (i : ℕ) × (page_in (frame_at pool.old i) ≡ Some extent.now.page)
-        × (pool.new ≡ with_frame pool.old i (λ f. record f { pinned = false })) }
+fn unpin_page<W: World>(cache: &mut Cache<W>, extent: &Extent)
+    requires { IsPinnedIn cache.old.pool extent.now }
+    ensures pool { (i : ℕ) × (page_in (frame_at cache.old.pool i) ≡ Some extent.now.page)
+        × (cache.new.pool ≡ with_frame cache.old.pool i (λ f. record f { pinned = false })) }
+    ensures others { cache.new ≡ with_pool cache.old cache.new.pool }
 {
-    let frame = frame_of(pool, extent);
-    pool.unpin(frame);
+    cache.unpin(extent.page);
 }

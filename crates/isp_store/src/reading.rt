@@ -7,8 +7,8 @@ ghost use Rattle.isp_pool.specs.Frames.{frame_at, page_of as page_in};
 ghost use Rattle.isp_store.specs.Running.{IsHeldAfter, IsRunning, StaysRunning};
 
 use isp_disk::{Failed, World};
+use isp_format::{Page, PageNo};
 use isp_frames::Cache;
-use isp_page::{Page, PageNo};
 
 /// Fills `into` with the page, which comes into a frame if it isn't there.
 pub(crate) fn read_page<W: World>(
@@ -26,8 +26,7 @@ pub(crate) fn read_page<W: World>(
     ensures untouched { (i : ℕ) → page_in (frame_at cache.old.pool i) ≡ Some p
         → cache.new.stable ≡ cache.old.stable }
 {
-    let frame = cache.hold(p)?;
-    prove!(frame < cache.pool.frames());
-    *into = *cache.pool.page(frame);
+    cache.read(p, into)?;
+    prove!(0 < cache.pool().frames());
     Ok(())
 }

@@ -1,34 +1,31 @@
 //! The store.
-ghost use Rattle.std.specs.Prelude.{◌≡◌, ◌≢◌, ℕ, ◌+◌, ◌*◌, ◌<◌, ◌≤◌, ◌++◌, [], ◌∷◌, true, false, Some, length, min, IfErr, IfOk, OnOk};
+ghost use Rattle.std.specs.Prelude.{◌≡◌, ◌≢◌, ◌+◌, ◌*◌, ◌<◌, ◌≤◌, true, false, length, IfErr, IfOk, OnOk};
 ghost use Rattle.isp_disk.specs.Moments.{Agree, either, put};
 ghost use Rattle.isp_disk.specs.Phases.{EndsQuiet};
 ghost use Rattle.isp_format.specs.Control.{IsFanout, IsPages, made_gate};
 ghost use Rattle.isp_format.specs.Ranges.{page_bytes, page_of};
-ghost use Rattle.isp_frames.specs.Held.{CleansSome};
 ghost use Rattle.isp_making.specs.Making.{IsMade, LeavesMaking};
 ghost use Rattle.isp_making.specs.Places.{file_places, made_place};
-ghost use Rattle.isp_mini.specs.Extents.{ranges_in, with_extent};
+ghost use Rattle.isp_mini.specs.Extents.{with_extent};
 ghost use Rattle.isp_opening.specs.Opening.{KeepsWorld};
-ghost use Rattle.isp_page.specs.Calls.{Continues, Continued, Flushes, Makes, Tells};
-ghost use Rattle.isp_page.specs.State.{HasRoom, just_begun, none_begun, with_change};
+ghost use Rattle.isp_page.specs.Calls.{Continued, Flushes, PrintsPiece};
+ghost use Rattle.isp_page.specs.State.{HasRoom, just_begun, with_change};
 ghost use Rattle.isp_page.specs.Steps.{IsNoDamage, done};
-ghost use Rattle.isp_pool.specs.Frames.{frame_at, page_of as page_in};
-ghost use Rattle.isp_stable.specs.File.{HasBatches, IsFile};
-ghost use Rattle.isp_store.specs.Calls.{IsAllInPlace, LeavesWhole, StandsNow};
-ghost use Rattle.isp_store.specs.Running.{HoldSame, IsHeldAfter};
+ghost use Rattle.isp_store.specs.Calls.{BringsInPage, ChangesHeld, CleansOldest, ContinuesWhole, EndsChanges, FlushesWhole, HoldsSame, IsAllInPlace, IsStill, LeavesHeld, LeavesWhole, LogsChanges, MakesWhole, StandsNow};
 ghost use Rattle.isp_store.specs.Starting.{IsFresh, IsStarted, StartRefuses, started_world};
-ghost use Rattle.isp_store.specs.State.{clock, contents, dirty, disk_faults, left_since, may_leave, mini, print_faults, shape, store, told};
+ghost use Rattle.isp_store.specs.State.{clock, contents, dirty, disk_faults, left_since, may_leave, mini, print_faults, shape, store, printed};
 
 use crate::changing::change_page;
+use crate::cleaning::{checkpoint_pages, clean_pages};
 use crate::finishing::log_changes;
 use crate::reading::read_page;
-use crate::settling::{clean_pages, settle_pages};
-use crate::starting::{Parts, recover, world_of};
+use crate::starting::{Parts, recover};
 use isp_disk::{Failed, World};
+use isp_format::{Page, PageNo};
 use isp_frames::Cache;
 use isp_making::make;
 use isp_mini::{Body, Changes};
-use isp_page::{Fault, Page, PageNo, Pages, StoreFault};
+use isp_page::{Fault, Pages, StoreFault};
 use std::alloc::Global;
 use std::marker::Model;
 
@@ -117,23 +114,22 @@ impl<W: World> Store<W> {
             is_begun: _,
             is_usable: _,
         } = self;
-        world_of(cache)
+        cache.into_world()
     }
 
     /// Writes all pages in place and empties the log. No mini-transaction is begun.
     pub fn checkpoint(&mut self) -> Result<(), StoreFault>
         requires usable { self.old.is_usable ≡ true }
         requires none { (mini W.World self.old).is_begun ≡ false }
-        ensures flushed { Flushes (store W.World) self.old self.new result }
+        ensures flushed { FlushesWhole W.World self.old self.new result }
         ensures sound { IfErr result IsNoDamage }
         ensures contents { W.tells
             → OnOk result (contents W.World self.new ≡ contents W.World self.old) }
         ensures mini { OnOk result (mini W.World self.new ≡ mini W.World self.old) }
         ensures in_place { OnOk result (IsAllInPlace W.World self.new) }
-        ensures held { OnOk result (HoldSame self.old.pool self.new.pool) }
-        ensures whole { LeavesWhole W.World self.old self.new result }
+        ensures held { OnOk result (HoldsSame self.old self.new) }
     {
-        match settle_pages(&mut self.cache) {
+        match checkpoint_pages(&mut self.cache) {
             Ok(()) => Ok(()),
             Err(_) => {
                 self.is_usable = false;
@@ -143,12 +139,161 @@ impl<W: World> Store<W> {
     }
 }
 
+impl<W: World> Store<W> {
+    /// Begins a mini-transaction: the body of `Pages::begin`, which calls no disk.
+    pub fn begin_changes(&mut self)
+        requires usable { self.old.is_usable ≡ true }
+        requires none { (mini W.World self.old).is_begun ≡ false }
+        ensures kept { Continued (store W.World) self.old self.new }
+        ensures contents { W.tells → contents W.World self.new ≡ contents W.World self.old }
+        ensures mini { mini W.World self.new ≡ just_begun }
+        ensures still { IsStill self.old self.new }
+    {
+        self.is_begun = true;
+        self.changes.clear();
+    }
+
+    /// Fills `into` with the page: the body of `Pages::read`. A page that is held costs no call of the disk; any other is brought
+    /// in, and no page is torn by what has to go for it.
+    pub fn read_page(&mut self, p: PageNo, into: &mut Page) -> Result<(), StoreFault>
+        requires usable { self.old.is_usable ≡ true }
+        requires page { p.0 < (shape W.World self.old).pages }
+        ensures kept { ContinuesWhole W.World self.old self.new result }
+        ensures sound { IfErr result IsNoDamage }
+        ensures page { W.tells
+            → OnOk result (into.new.bytes ≡ page_of (contents W.World self.old) p.0) }
+        ensures contents { W.tells
+            → OnOk result (contents W.World self.new ≡ contents W.World self.old) }
+        ensures mini { OnOk result (mini W.World self.new ≡ mini W.World self.old) }
+        ensures held { BringsInPage p self.old self.new result }
+    {
+        match read_page(&mut self.cache, p, into) {
+            Ok(()) => Ok(()),
+            Err(_) => {
+                self.is_usable = false;
+                Err(StoreFault::Disk)
+            }
+        }
+    }
+
+    /// Puts bytes into a page: the body of `Pages::change`. The page is brought in as by `read_page`, and what is changed of it
+    /// is what the next finish logs. Only a mini-transaction's first change may call the disk where the page is held.
+    pub fn change_page(&mut self, p: PageNo, at: u16, bytes: &[u8]) -> Result<(), StoreFault>
+        requires usable { self.old.is_usable ≡ true }
+        requires page { p.0 < (shape W.World self.old).pages }
+        requires some { 1 ≤ length bytes.now }
+        requires inside { at + length bytes.now ≤ page_bytes }
+        requires begun { (mini W.World self.old).is_begun ≡ true }
+        requires room { HasRoom p.0 (mini W.World self.old) }
+        ensures kept { ContinuesWhole W.World self.old self.new result }
+        ensures sound { IfErr result IsNoDamage }
+        ensures contents { W.tells → OnOk result (contents W.World self.new
+            ≡ put (contents W.World self.old) (p.0 * page_bytes + at) bytes.now) }
+        ensures mini { OnOk result (mini W.World self.new
+            ≡ with_change p.0 (mini W.World self.old)) }
+        ensures noted { OnOk result (self.new.open_ranges
+            ≡ with_extent p at (at + length bytes.now) self.old.open_ranges) }
+        ensures held { ChangesHeld p self.old self.new result }
+    {
+        match change_page(&mut self.cache, &mut self.changes, p, at, bytes) {
+            Ok(()) => Ok(()),
+            Err(_) => {
+                self.is_usable = false;
+                Err(StoreFault::Disk)
+            }
+        }
+    }
+
+    /// Finishes the mini-transaction: the body of `Pages::finish`. One batch with what it changed is appended to the log, and
+    /// nothing else is written; where it changed nothing the disk isn't called.
+    pub fn finish_changes(&mut self) -> Result<(), StoreFault>
+        requires usable { self.old.is_usable ≡ true }
+        requires begun { (mini W.World self.old).is_begun ≡ true }
+        ensures made { MakesWhole W.World self.old self.new result }
+        ensures sound { IfErr result IsNoDamage }
+        ensures contents { W.tells
+            → OnOk result (contents W.World self.new ≡ contents W.World self.old) }
+        ensures ended { OnOk result (EndsChanges W.World self.old self.new) }
+        ensures logged { LogsChanges W.World self.old self.new result }
+        ensures held { HoldsSame self.old self.new }
+    {
+        if self.changes.is_empty() {
+            self.is_begun = false;
+            return Ok(());
+        }
+        match log_changes(&mut self.cache, &mut self.changes, &mut self.body) {
+            Ok(()) => {
+                self.is_begun = false;
+                Ok(())
+            }
+            Err(_) => {
+                self.is_usable = false;
+                Err(StoreFault::Disk)
+            }
+        }
+    }
+
+    /// What a stop leaves now is the contents: the body of `Pages::flush`. The last finish made its batch durable already, so
+    /// no disk is called.
+    pub fn flush_changes(&mut self) -> Result<(), StoreFault>
+        requires usable { self.old.is_usable ≡ true }
+        requires none { (mini W.World self.old).is_begun ≡ false }
+        ensures flushed { Flushes (store W.World) self.old self.new result }
+        ensures sound { IfErr result IsNoDamage }
+        ensures contents { W.tells
+            → OnOk result (contents W.World self.new ≡ contents W.World self.old) }
+        ensures mini { OnOk result (mini W.World self.new ≡ mini W.World self.old) }
+        ensures image { W.tells → OnOk result (StandsNow W.World self.new) }
+        ensures still { IsStill self.old self.new }
+    {
+        prove!(!self.is_begun);
+        Ok(())
+    }
+
+    /// Writes up to 64 dirty pages in place, the least recently used first, and answers how many: the body of
+    /// `Pages::clean_some`.
+    pub fn clean_oldest(&mut self) -> Result<u32, StoreFault>
+        requires usable { self.old.is_usable ≡ true }
+        requires none { (mini W.World self.old).is_begun ≡ false }
+        ensures kept { ContinuesWhole W.World self.old self.new result }
+        ensures sound { IfErr result IsNoDamage }
+        ensures contents { W.tells
+            → OnOk result (contents W.World self.new ≡ contents W.World self.old) }
+        ensures mini { OnOk result (mini W.World self.new ≡ mini W.World self.old) }
+        ensures cleaned { IfOk result (CleansOldest self.old self.new) }
+    {
+        match clean_pages(&mut self.cache) {
+            Ok(cleaned) => Ok(cleaned),
+            Err(_) => {
+                self.is_usable = false;
+                Err(StoreFault::Disk)
+            }
+        }
+    }
+
+    /// Prints a line: the body of `Pages::print`. No page moves.
+    pub fn print_line(&mut self, line: &[u8]) -> Result<(), StoreFault>
+        requires usable { self.old.is_usable ≡ true }
+        ensures printed { PrintsPiece (store W.World) line.now self.old self.new result }
+        ensures contents { W.tells → contents W.World self.new ≡ contents W.World self.old }
+        ensures mini { mini W.World self.new ≡ mini W.World self.old }
+        ensures still { LeavesHeld self.old self.new }
+        ensures whole { LeavesWhole W.World self.old self.new done }
+    {
+        match self.cache.print(line) {
+            Ok(()) => {}
+            Err(_) => return Err(StoreFault::Print),
+        }
+        Ok(())
+    }
+}
+
 impl<W: World> Pages for Store<W> {
     ghost tells = { W.tells };
 
     ghost contents = { contents W.World };
 
-    ghost told = { told W.World };
+    ghost printed = { printed W.World };
 
     ghost may_leave = { may_leave W.World };
 
@@ -169,165 +314,38 @@ impl<W: World> Pages for Store<W> {
     ghost usable = { λ s. s.is_usable };
 
     fn pages(&self) -> u32 {
-        self.cache.stable.pages
+        self.cache.stable().pages()
     }
 
     fn fanout(&self) -> u32 {
-        self.cache.stable.fanout
+        self.cache.stable().fanout()
     }
 
-    fn begin(&mut self)
-        requires usable { self.old.is_usable ≡ true }
-        requires none { (mini W.World self.old).is_begun ≡ false }
-        ensures kept { Continued (store W.World) self.old self.new }
-        ensures contents { W.tells → contents W.World self.new ≡ contents W.World self.old }
-        ensures mini { mini W.World self.new ≡ just_begun }
-        ensures dirty { dirty W.World self.new ≡ dirty W.World self.old }
-        ensures still { (self.new.pool ≡ self.old.pool) × (self.new.stable ≡ self.old.stable) }
-    {
-        self.is_begun = true;
-        self.changes.clear();
+    fn begin(&mut self) {
+        self.begin_changes();
     }
 
-    fn read(&mut self, p: PageNo, into: &mut Page) -> Result<(), StoreFault>
-        requires usable { self.old.is_usable ≡ true }
-        requires page { p.0 < (shape W.World self.old).pages }
-        ensures kept { Continues (store W.World) self.old self.new result }
-        ensures sound { IfErr result IsNoDamage }
-        ensures page { W.tells
-            → OnOk result (into.new.bytes ≡ page_of (contents W.World self.old) p.0) }
-        ensures contents { W.tells
-            → OnOk result (contents W.World self.new ≡ contents W.World self.old) }
-        ensures mini { OnOk result (mini W.World self.new ≡ mini W.World self.old) }
-        ensures held { OnOk result (IsHeldAfter p self.old.pool self.new.pool) }
-        ensures untouched { (i : ℕ) → page_in (frame_at self.old.pool i) ≡ Some p
-            → self.new.stable ≡ self.old.stable }
-        ensures whole { LeavesWhole W.World self.old self.new result }
-    {
-        match read_page(&mut self.cache, p, into) {
-            Ok(()) => Ok(()),
-            Err(_) => {
-                self.is_usable = false;
-                Err(StoreFault::Disk)
-            }
-        }
+    fn read(&mut self, p: PageNo, into: &mut Page) -> Result<(), StoreFault> {
+        self.read_page(p, into)
     }
 
-    fn change(&mut self, p: PageNo, at: u16, bytes: &[u8]) -> Result<(), StoreFault>
-        requires usable { self.old.is_usable ≡ true }
-        requires page { p.0 < (shape W.World self.old).pages }
-        requires some { 1 ≤ length bytes.now }
-        requires inside { at + length bytes.now ≤ page_bytes }
-        requires begun { (mini W.World self.old).is_begun ≡ true }
-        requires room { HasRoom p.0 (mini W.World self.old) }
-        ensures kept { Continues (store W.World) self.old self.new result }
-        ensures sound { IfErr result IsNoDamage }
-        ensures contents { W.tells → OnOk result (contents W.World self.new
-            ≡ put (contents W.World self.old) (p.0 * page_bytes + at) bytes.now) }
-        ensures mini { OnOk result (mini W.World self.new
-            ≡ with_change p.0 (mini W.World self.old)) }
-        ensures open_ranges { OnOk result (self.new.open_ranges
-            ≡ with_extent p at (at + length bytes.now) self.old.open_ranges) }
-        ensures held { OnOk result (IsHeldAfter p self.old.pool self.new.pool) }
-        ensures untouched { self.old.open_ranges ≢ [] → (i : ℕ)
-            → page_in (frame_at self.old.pool i) ≡ Some p → self.new.stable ≡ self.old.stable }
-        ensures whole { LeavesWhole W.World self.old self.new result }
-    {
-        match change_page(&mut self.cache, &mut self.changes, p, at, bytes) {
-            Ok(()) => Ok(()),
-            Err(_) => {
-                self.is_usable = false;
-                Err(StoreFault::Disk)
-            }
-        }
+    fn change(&mut self, p: PageNo, at: u16, bytes: &[u8]) -> Result<(), StoreFault> {
+        self.change_page(p, at, bytes)
     }
 
-    fn finish(&mut self) -> Result<(), StoreFault>
-        requires usable { self.old.is_usable ≡ true }
-        requires begun { (mini W.World self.old).is_begun ≡ true }
-        ensures made { Makes (store W.World) (contents W.World self.old) self.old self.new result }
-        ensures sound { IfErr result IsNoDamage }
-        ensures contents { W.tells
-            → OnOk result (contents W.World self.new ≡ contents W.World self.old) }
-        ensures mini { OnOk result (mini W.World self.new ≡ none_begun) }
-        ensures dirty { OnOk result (dirty W.World self.new ≡ dirty W.World self.old) }
-        ensures logged { W.tells → (file : IsFile W.World self.old.stable)
-            → self.old.open_ranges ≢ []
-            → OnOk result (HasBatches W.World self.new.stable (file.batches
-            ++ (ranges_in (contents W.World self.old) self.old.open_ranges ∷ []) ∷ [])) }
-        ensures nothing { self.old.open_ranges ≡ [] → self.new.stable ≡ self.old.stable }
-        ensures held { HoldSame self.old.pool self.new.pool }
-        ensures whole { LeavesWhole W.World self.old self.new result }
-    {
-        if self.changes.is_empty() {
-            self.is_begun = false;
-            return Ok(());
-        }
-        match log_changes(&mut self.cache, &mut self.changes, &mut self.body) {
-            Ok(()) => {
-                self.is_begun = false;
-                Ok(())
-            }
-            Err(_) => {
-                self.is_usable = false;
-                Err(StoreFault::Disk)
-            }
-        }
+    fn finish(&mut self) -> Result<(), StoreFault> {
+        self.finish_changes()
     }
 
-    // The last finish made its batch durable already.
-    fn flush(&mut self) -> Result<(), StoreFault>
-        requires usable { self.old.is_usable ≡ true }
-        requires none { (mini W.World self.old).is_begun ≡ false }
-        ensures flushed { Flushes (store W.World) self.old self.new result }
-        ensures sound { IfErr result IsNoDamage }
-        ensures contents { W.tells
-            → OnOk result (contents W.World self.new ≡ contents W.World self.old) }
-        ensures mini { OnOk result (mini W.World self.new ≡ mini W.World self.old) }
-        ensures dirty { OnOk result (dirty W.World self.new ≡ dirty W.World self.old) }
-        ensures image { W.tells → OnOk result (StandsNow W.World self.new) }
-        ensures still { (self.new.pool ≡ self.old.pool) × (self.new.stable ≡ self.old.stable) }
-    {
-        prove!(!self.is_begun);
-        Ok(())
+    fn flush(&mut self) -> Result<(), StoreFault> {
+        self.flush_changes()
     }
 
-    fn clean_some(&mut self) -> Result<u32, StoreFault>
-        requires usable { self.old.is_usable ≡ true }
-        requires none { (mini W.World self.old).is_begun ≡ false }
-        ensures kept { Continues (store W.World) self.old self.new result }
-        ensures sound { IfErr result IsNoDamage }
-        ensures count { IfOk result (λ cleaned. cleaned ≡ min 64 (dirty W.World self.old)) }
-        ensures dirty { IfOk result (λ cleaned.
-            dirty W.World self.new + cleaned ≡ dirty W.World self.old) }
-        ensures contents { W.tells
-            → OnOk result (contents W.World self.new ≡ contents W.World self.old) }
-        ensures mini { OnOk result (mini W.World self.new ≡ mini W.World self.old) }
-        ensures cleaned { IfOk result (CleansSome self.old.pool self.new.pool) }
-        ensures whole { LeavesWhole W.World self.old self.new result }
-    {
-        match clean_pages(&mut self.cache) {
-            Ok(cleaned) => Ok(cleaned),
-            Err(_) => {
-                self.is_usable = false;
-                Err(StoreFault::Disk)
-            }
-        }
+    fn clean_some(&mut self) -> Result<u32, StoreFault> {
+        self.clean_oldest()
     }
 
-    fn tell(&mut self, line: &[u8]) -> Result<(), StoreFault>
-        requires usable { self.old.is_usable ≡ true }
-        ensures told { Tells (store W.World) line.now self.old self.new result }
-        ensures contents { W.tells → contents W.World self.new ≡ contents W.World self.old }
-        ensures mini { mini W.World self.new ≡ mini W.World self.old }
-        ensures dirty { dirty W.World self.new ≡ dirty W.World self.old }
-        ensures still { self.new.pool ≡ self.old.pool }
-        ensures whole { LeavesWhole W.World self.old self.new done }
-    {
-        match self.cache.stable.world.print(line) {
-            Ok(()) => {}
-            Err(_) => return Err(StoreFault::Print),
-        }
-        Ok(())
+    fn print(&mut self, line: &[u8]) -> Result<(), StoreFault> {
+        self.print_line(line)
     }
 }

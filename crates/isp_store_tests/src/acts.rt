@@ -6,7 +6,8 @@ ghost use Rattle.isp_store.specs.State.{mini};
 use crate::plain::page_after;
 use crate::plans::{Act, Plan, Run};
 use isp_disk::World;
-use isp_page::{Fault, PAGE_BYTES, Page, PageNo, Pages, StoreFault};
+use isp_format::{PAGE_BYTES, Page, PageNo};
+use isp_page::{Fault, Pages, StoreFault};
 use isp_store::Store;
 use std::alloc::Global;
 
@@ -100,7 +101,7 @@ fn do_one<W: World>(store: &mut Store<W>, act: Act) -> Result<(), StoreFault>
         Act::PutThree(first, second, third) => put(store, &[first, second, third]),
         Act::PutNone => put(store, &[]),
         Act::Read(number) => look_at(store, number),
-        Act::Tell => store.tell(b"."),
+        Act::Print => store.print(b"."),
         Act::Flush => store.flush(),
         Act::CleanSome => clean(store),
         Act::Checkpoint => store.checkpoint(),

@@ -17,7 +17,7 @@ static ACTS: [Act; 11] = [
         len: 9,
         byte: 1,
     }),
-    Act::Tell,
+    Act::Print,
     Act::Read(40),
     Act::CleanSome,
     Act::PutThree(
@@ -40,7 +40,7 @@ static ACTS: [Act; 11] = [
             byte: 4,
         },
     ),
-    Act::Tell,
+    Act::Print,
     Act::Checkpoint,
     Act::Put(Run {
         page: 21,
@@ -49,7 +49,7 @@ static ACTS: [Act; 11] = [
         byte: 5,
     }),
     Act::Flush,
-    Act::Tell,
+    Act::Print,
     Act::Read(50),
 ];
 

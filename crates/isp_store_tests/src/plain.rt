@@ -1,7 +1,7 @@
 //! The pages that a plan comes to, as plain bytes.
 
 use crate::plans::{Act, Plan, Run};
-use isp_page::{PAGE_BYTES, Page};
+use isp_format::{PAGE_BYTES, Page};
 
 /// Changes the part of a run that lies in this page.
 fn put_run(page: &mut Page, number: u32, run: Run) {

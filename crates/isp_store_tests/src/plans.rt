@@ -19,7 +19,7 @@ pub(crate) enum Act {
     PutNone,
     Read(u32),
     /// A byte is told.
-    Tell,
+    Print,
     Flush,
     CleanSome,
     Checkpoint,
@@ -95,7 +95,7 @@ fn wide(at: u32) -> Act {
             whole(page + 1, byte),
             whole(page + 2, byte),
         ),
-        _ => Act::Tell,
+        _ => Act::Print,
     }
 }
 
@@ -128,7 +128,7 @@ fn mixed(at: u32) -> Act {
     match at % 4 {
         0 => Act::PutThree(some_run(at, 0), some_run(at, 4), some_run(at, 8)),
         1 => Act::Flush,
-        2 => Act::Tell,
+        2 => Act::Print,
         _ => besides(at),
     }
 }

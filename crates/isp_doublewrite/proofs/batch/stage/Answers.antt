@@ -1,14 +1,14 @@
 use Rattle.std.proofs.Common.{◌≡◌, ℕ, suc, ◌+◌, ◌*◌, ◌<◌, List, [], ◌∷◌, ◌++◌, length, map, take, get_or, refl, sym, ◌∙◌, ap, subst, arith, rules}
 use Rattle.std.proofs.lemmas.List.{take_more}
 use Rattle.isp_disk.specs.Moments.{Image, put}
-use Rattle.isp_disk.proofs.Phases.{writes}
+use Rattle.isp_disk.proofs.PhaseLaws.{writes}
 use Rattle.isp_doublewrite.specs.Batches.{AreWhole, whole_page}
 use Rattle.isp_doublewrite.specs.Places.{staged_places}
 use Rattle.isp_doublewrite.proofs.Staging.{count_kept, in_copies, in_list, staged_more, whole_append, whole_map, with_copy}
 use Rattle.isp_format.specs.Doublewrite.{copies_from, copies_place, copy_count, list_place}
 use Rattle.isp_format.specs.Numbers.{bytes_of}
 use Rattle.isp_format.specs.Ranges.{page_bytes}
-use Rattle.isp_page.specs.declared.page.Page.{Page}
+use Rattle.isp_format.specs.declared.page.Page.{Page}
 use Rattle.isp_base.specs.declared.page_no.PageNo.{PageNo}
 use Rattle.isp_doublewrite.proofs.batch.stage.Goals as goal
 

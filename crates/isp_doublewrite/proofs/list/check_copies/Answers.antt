@@ -1,5 +1,5 @@
 use Rattle.std.proofs.Common.{◌≡◌, ℕ, min, refl, sym, ◌∙◌, ap, subst, take, List}
-use Rattle.isp_disk.proofs.Phases.{reads_phase}
+use Rattle.isp_disk.proofs.PhaseLaws.{reads_phase}
 use Rattle.isp_disk.specs.Moments.{Image}
 use Rattle.isp_doublewrite.specs.Lists.{IsNumbers, is_copy_list}
 use Rattle.isp_doublewrite.proofs.Numbered.{rule_back, rule_means}

@@ -1,8 +1,9 @@
 use Rattle.std.proofs.Common.{◌≡◌, ℕ, suc, ◌+◌, ◌*◌, ◌<◌, List, [], ◌∷◌, ◌++◌, length, get_or, sym, ◌∙◌, ap, arith, rules}
 use Rattle.isp_disk.specs.Moments.{Within, in_range, put, slice}
-use Rattle.isp_disk.proofs.Phases.{keeps, writes}
+use Rattle.isp_disk.proofs.PhaseLaws.{keeps, writes}
 use Rattle.isp_doublewrite.specs.Places.{page_places}
-use Rattle.isp_doublewrite.proofs.InPlace.{page_within, pages_above, placed_more}
+use Rattle.isp_doublewrite.proofs.InPlace.{page_within, placed_more}
+use Rattle.isp_doublewrite.proofs.PlaceLaws.{pages_above}
 use Rattle.isp_doublewrite.proofs.Staging.{copies_more}
 use Rattle.isp_format.specs.Doublewrite.{area, area_place, copies_from, copies_place, copy_at}
 use Rattle.isp_format.specs.Ranges.{Range, page_bytes, puts}
@@ -46,7 +47,7 @@ loop-k-preserved g c =
       calls = search rules;
       placed = λ tells.
           let read : c.read.new.into ≡ copy = c.in_ok-read.ensures.bytes tells ∙ (λ i. slice (w.image c.loop-k.world) (c.copy_place.ensures i) (page_long i)) ∙ slice_agree (w.image c.loop-k.world) (w.image old) (copies_place + page_bytes * k) page_bytes (λ place low high. sym (so_far.phase.agrees place (pages_above numbers place (omega (arith, high, small))))) in
-          let now : w.image c.write.new.self ≡ put (w.image c.loop-k.world) (area_place + page_bytes * number) copy = c.in_ok-write.ensures.written tells ∙ (λ i. put (c.in_ok-read.ensures.disk.same i) (c.page_place.ensures i) (read i)) in
+          let now : w.image c.write.new.self ≡ put (w.image c.loop-k.world) (area_place + number * page_bytes) copy = c.in_ok-write.ensures.written tells ∙ (λ i. put (c.in_ok-read.ensures.disk.same i) (c.page_place.ensures i) (read i)) in
           let range : Range = record { page = number; at = 0; bytes = copy } in
           let is_copy : range ≡ copy_at (w.image old) (0 + k) = (λ i. record { page = c.requires.numbers tells k (omega arith) i; at = 0; bytes = copy }) ∙ ap (copy_at (w.image old)) (sym here) in
           let more : copies_from (w.image old) 0 k ++ range ∷ [] ≡ copies_from (w.image old) 0 (k + 1) = (λ i. copies_from (w.image old) 0 k ++ is_copy i ∷ []) ∙ sym (copies_more (w.image old) 0 k) ∙ ap (copies_from (w.image old) 0) up in

@@ -1,7 +1,7 @@
 use Rattle.std.proofs.Common.{◌≡◌, ℕ, ◌≤◌, true, false, List, length, min, take, refl, sym, ◌∙◌, ap, subst, arith}
-use Rattle.isp_disk.proofs.Phases.{reads_phase}
+use Rattle.isp_disk.proofs.PhaseLaws.{reads_phase}
 use Rattle.isp_disk.specs.Moments.{Agree, Image, no_place}
-use Rattle.isp_disk.proofs.Moments.{agree_on, chains, widens}
+use Rattle.isp_disk.proofs.MomentLaws.{agree_on, chains, widens}
 use Rattle.isp_doublewrite.specs.Lists.{IsNumbers, is_copy_list}
 use Rattle.isp_doublewrite.specs.Places.{page_places}
 use Rattle.isp_doublewrite.specs.Restores.{RestoreLeft, copied_pages}
@@ -20,7 +20,7 @@ returns-in_err-read_gate-clause-stops g c = λ tells.
     let P : Image → List ℕ → Type 0 = RestoreLeft pages before (w.printed old) in
     let s1 = c.read_gate.new.world in
     let first = reads_phase w old c.read_gate.new.world _ c.in_err-read_gate.ensures.reads in
-    let l1 = widens w.clock w.left_since old s1 _ P first.leaves (λ left said has. unchanged pages before (w.printed old) left said has.0 has.1) in
+    let l1 = widens w.clock w.left_since old s1 _ P first.leaves (λ left printed has. unchanged pages before (w.printed old) left printed has.0 has.1) in
     l1
 
 pub returns-in_err-count-clause-stops : goal.returns-in_err-count-clause-stops
@@ -32,11 +32,11 @@ returns-in_err-count-clause-stops g c = λ tells.
     let P : Image → List ℕ → Type 0 = RestoreLeft pages before (w.printed old) in
     let s1 = c.read_gate.new.world in
     let first = reads_phase w old c.read_gate.new.world _ c.in_ok-read_gate.ensures.reads in
-    let l1 = widens w.clock w.left_since old s1 _ P first.leaves (λ left said has. unchanged pages before (w.printed old) left said has.0 has.1) in
+    let l1 = widens w.clock w.left_since old s1 _ P first.leaves (λ left printed has. unchanged pages before (w.printed old) left printed has.0 has.1) in
     let s2 = c.read_list.new.world in
     let second = reads_phase w c.read_gate.new.world c.read_list.new.world _ c.in_err-count.ensures.reads in
     let told2 = second.told ∙ first.told in
-    let l2 = chains w.clock w.left_since old s1 s2 P l1 (widens w.clock w.left_since s1 s2 _ P second.leaves (λ left said has. unchanged pages before (w.printed old) left said (agree_on no_place before (w.image s1) left first.agrees has.0) (has.1 ∙ first.told))) in
+    let l2 = chains w.clock w.left_since old s1 s2 P l1 (widens w.clock w.left_since s1 s2 _ P second.leaves (λ left printed has. unchanged pages before (w.printed old) left printed (agree_on no_place before (w.image s1) left first.agrees has.0) (has.1 ∙ first.told))) in
     l2
 
 pub returns-then-not-is_copy_list-clause-stops : goal.returns-then-not-is_copy_list-clause-stops
@@ -48,11 +48,11 @@ returns-then-not-is_copy_list-clause-stops g c = λ tells.
     let P : Image → List ℕ → Type 0 = RestoreLeft pages before (w.printed old) in
     let s1 = c.read_gate.new.world in
     let first = reads_phase w old c.read_gate.new.world _ c.in_ok-read_gate.ensures.reads in
-    let l1 = widens w.clock w.left_since old s1 _ P first.leaves (λ left said has. unchanged pages before (w.printed old) left said has.0 has.1) in
+    let l1 = widens w.clock w.left_since old s1 _ P first.leaves (λ left printed has. unchanged pages before (w.printed old) left printed has.0 has.1) in
     let s2 = c.read_list.new.world in
     let second = reads_phase w c.read_gate.new.world c.read_list.new.world _ c.in_ok-count.ensures.reads in
     let told2 = second.told ∙ first.told in
-    let l2 = chains w.clock w.left_since old s1 s2 P l1 (widens w.clock w.left_since s1 s2 _ P second.leaves (λ left said has. unchanged pages before (w.printed old) left said (agree_on no_place before (w.image s1) left first.agrees has.0) (has.1 ∙ first.told))) in
+    let l2 = chains w.clock w.left_since old s1 s2 P l1 (widens w.clock w.left_since s1 s2 _ P second.leaves (λ left printed has. unchanged pages before (w.printed old) left printed (agree_on no_place before (w.image s1) left first.agrees has.0) (has.1 ∙ first.told))) in
     l2
 
 pub returns-then-not-is_copy_list-clause-done : goal.returns-then-not-is_copy_list-clause-done
@@ -64,11 +64,11 @@ returns-then-not-is_copy_list-clause-done g c = λ tells.
     let P : Image → List ℕ → Type 0 = RestoreLeft pages before (w.printed old) in
     let s1 = c.read_gate.new.world in
     let first = reads_phase w old c.read_gate.new.world _ c.in_ok-read_gate.ensures.reads in
-    let l1 = widens w.clock w.left_since old s1 _ P first.leaves (λ left said has. unchanged pages before (w.printed old) left said has.0 has.1) in
+    let l1 = widens w.clock w.left_since old s1 _ P first.leaves (λ left printed has. unchanged pages before (w.printed old) left printed has.0 has.1) in
     let s2 = c.read_list.new.world in
     let second = reads_phase w c.read_gate.new.world c.read_list.new.world _ c.in_ok-count.ensures.reads in
     let told2 = second.told ∙ first.told in
-    let l2 = chains w.clock w.left_since old s1 s2 P l1 (widens w.clock w.left_since s1 s2 _ P second.leaves (λ left said has. unchanged pages before (w.printed old) left said (agree_on no_place before (w.image s1) left first.agrees has.0) (has.1 ∙ first.told))) in
+    let l2 = chains w.clock w.left_since old s1 s2 P l1 (widens w.clock w.left_since s1 s2 _ P second.leaves (λ left printed has. unchanged pages before (w.printed old) left printed (agree_on no_place before (w.image s1) left first.agrees has.0) (has.1 ∙ first.told))) in
     let same1 : w.image s1 ≡ before = λ i place. sym (first.agrees place refl) i in
     let same2 : w.image s2 ≡ before = (λ i place. sym (second.agrees place refl) i) ∙ same1 in
     let gate : before doublewrite_gate ≡ 1 = sym (c.in_ok-read_gate.ensures.gate tells) ∙ c.if-branch-ne1.false in
@@ -88,11 +88,11 @@ returns-in_err-lay-clause-stops g c = λ tells.
     let P : Image → List ℕ → Type 0 = RestoreLeft pages before (w.printed old) in
     let s1 = c.read_gate.new.world in
     let first = reads_phase w old c.read_gate.new.world _ c.in_ok-read_gate.ensures.reads in
-    let l1 = widens w.clock w.left_since old s1 _ P first.leaves (λ left said has. unchanged pages before (w.printed old) left said has.0 has.1) in
+    let l1 = widens w.clock w.left_since old s1 _ P first.leaves (λ left printed has. unchanged pages before (w.printed old) left printed has.0 has.1) in
     let s2 = c.read_list.new.world in
     let second = reads_phase w c.read_gate.new.world c.read_list.new.world _ c.in_ok-count.ensures.reads in
     let told2 = second.told ∙ first.told in
-    let l2 = chains w.clock w.left_since old s1 s2 P l1 (widens w.clock w.left_since s1 s2 _ P second.leaves (λ left said has. unchanged pages before (w.printed old) left said (agree_on no_place before (w.image s1) left first.agrees has.0) (has.1 ∙ first.told))) in
+    let l2 = chains w.clock w.left_since old s1 s2 P l1 (widens w.clock w.left_since s1 s2 _ P second.leaves (λ left printed has. unchanged pages before (w.printed old) left printed (agree_on no_place before (w.image s1) left first.agrees has.0) (has.1 ∙ first.told))) in
     let same1 : w.image s1 ≡ before = λ i place. sym (first.agrees place refl) i in
     let same2 : w.image s2 ≡ before = (λ i place. sym (second.agrees place refl) i) ∙ same1 in
     let gate : before doublewrite_gate ≡ 1 = sym (c.in_ok-read_gate.ensures.gate tells) ∙ c.if-branch-ne1.false in
@@ -107,7 +107,7 @@ returns-in_err-lay-clause-stops g c = λ tells.
     let moved : (left : Image) → Agree (page_places taken) (w.image s2) left → Agree (page_places (copied_pages before)) before left = λ left agree place out. (λ i. sym same2 i place) ∙ agree place (ap (λ (ns : List ℕ). page_places ns place) are ∙ out) in
     let s3 = c.lay.new.world in
     let third = c.in_err-lay.ensures.wrote.phase in
-    let l3 = chains w.clock w.left_since old s2 s3 P l2 (widens w.clock w.left_since s2 s3 _ P third.leaves (λ left said left_has. while_laying pages before (w.printed old) left said gate has (moved left left_has.0) (left_has.1 ∙ told2))) in
+    let l3 = chains w.clock w.left_since old s2 s3 P l2 (widens w.clock w.left_since s2 s3 _ P third.leaves (λ left printed left_has. while_laying pages before (w.printed old) left printed gate has (moved left left_has.0) (left_has.1 ∙ told2))) in
     l3
 
 pub returns-in_err-set_gate-clause-stops : goal.returns-in_err-set_gate-clause-stops
@@ -119,11 +119,11 @@ returns-in_err-set_gate-clause-stops g c = λ tells.
     let P : Image → List ℕ → Type 0 = RestoreLeft pages before (w.printed old) in
     let s1 = c.read_gate.new.world in
     let first = reads_phase w old c.read_gate.new.world _ c.in_ok-read_gate.ensures.reads in
-    let l1 = widens w.clock w.left_since old s1 _ P first.leaves (λ left said has. unchanged pages before (w.printed old) left said has.0 has.1) in
+    let l1 = widens w.clock w.left_since old s1 _ P first.leaves (λ left printed has. unchanged pages before (w.printed old) left printed has.0 has.1) in
     let s2 = c.read_list.new.world in
     let second = reads_phase w c.read_gate.new.world c.read_list.new.world _ c.in_ok-count.ensures.reads in
     let told2 = second.told ∙ first.told in
-    let l2 = chains w.clock w.left_since old s1 s2 P l1 (widens w.clock w.left_since s1 s2 _ P second.leaves (λ left said has. unchanged pages before (w.printed old) left said (agree_on no_place before (w.image s1) left first.agrees has.0) (has.1 ∙ first.told))) in
+    let l2 = chains w.clock w.left_since old s1 s2 P l1 (widens w.clock w.left_since s1 s2 _ P second.leaves (λ left printed has. unchanged pages before (w.printed old) left printed (agree_on no_place before (w.image s1) left first.agrees has.0) (has.1 ∙ first.told))) in
     let same1 : w.image s1 ≡ before = λ i place. sym (first.agrees place refl) i in
     let same2 : w.image s2 ≡ before = (λ i place. sym (second.agrees place refl) i) ∙ same1 in
     let gate : before doublewrite_gate ≡ 1 = sym (c.in_ok-read_gate.ensures.gate tells) ∙ c.if-branch-ne1.false in
@@ -138,13 +138,13 @@ returns-in_err-set_gate-clause-stops g c = λ tells.
     let moved : (left : Image) → Agree (page_places taken) (w.image s2) left → Agree (page_places (copied_pages before)) before left = λ left agree place out. (λ i. sym same2 i place) ∙ agree place (ap (λ (ns : List ℕ). page_places ns place) are ∙ out) in
     let s3 = c.lay.new.world in
     let third = c.in_ok-lay.ensures.wrote.phase in
-    let l3 = chains w.clock w.left_since old s2 s3 P l2 (widens w.clock w.left_since s2 s3 _ P third.leaves (λ left said left_has. while_laying pages before (w.printed old) left said gate has (moved left left_has.0) (left_has.1 ∙ told2))) in
+    let l3 = chains w.clock w.left_since old s2 s3 P l2 (widens w.clock w.left_since s2 s3 _ P third.leaves (λ left printed left_has. while_laying pages before (w.printed old) left printed gate has (moved left left_has.0) (left_has.1 ∙ told2))) in
     let told3 = third.told ∙ told2 in
     let placed : area (w.image s3) ≡ puts (copies before) (area before) = (c.in_ok-lay.ensures.placed tells).placed ∙ (λ i. puts (copies_from (same2 i) 0 (length taken)) (area (same2 i))) ∙ ap (λ (ranges : List Range). puts ranges (area before)) (copies_taken before numbers c.in_ok-count.count gate all.all count small) in
     let over = over_by pages before (w.image s3) gate has (moved (w.image s3) third.agrees) placed in
     let s4 = c.set_gate.new.world in
     let fourth = c.in_err-set_gate.ensures.wrote.phase in
-    let l4 = chains w.clock w.left_since old s3 s4 P l3 (widens w.clock w.left_since s3 s4 _ P fourth.leaves (λ left said left_has. while_ending pages before (w.image s3) (w.printed old) left said gate has over left_has.0 (left_has.1 ∙ told3))) in
+    let l4 = chains w.clock w.left_since old s3 s4 P l3 (widens w.clock w.left_since s3 s4 _ P fourth.leaves (λ left printed left_has. while_ending pages before (w.image s3) (w.printed old) left printed gate has over left_has.0 (left_has.1 ∙ told3))) in
     l4
 
 pub returns-clause-stops : goal.returns-clause-stops
@@ -156,11 +156,11 @@ returns-clause-stops g c = λ tells.
     let P : Image → List ℕ → Type 0 = RestoreLeft pages before (w.printed old) in
     let s1 = c.read_gate.new.world in
     let first = reads_phase w old c.read_gate.new.world _ c.in_ok-read_gate.ensures.reads in
-    let l1 = widens w.clock w.left_since old s1 _ P first.leaves (λ left said has. unchanged pages before (w.printed old) left said has.0 has.1) in
+    let l1 = widens w.clock w.left_since old s1 _ P first.leaves (λ left printed has. unchanged pages before (w.printed old) left printed has.0 has.1) in
     let s2 = c.read_list.new.world in
     let second = reads_phase w c.read_gate.new.world c.read_list.new.world _ c.in_ok-count.ensures.reads in
     let told2 = second.told ∙ first.told in
-    let l2 = chains w.clock w.left_since old s1 s2 P l1 (widens w.clock w.left_since s1 s2 _ P second.leaves (λ left said has. unchanged pages before (w.printed old) left said (agree_on no_place before (w.image s1) left first.agrees has.0) (has.1 ∙ first.told))) in
+    let l2 = chains w.clock w.left_since old s1 s2 P l1 (widens w.clock w.left_since s1 s2 _ P second.leaves (λ left printed has. unchanged pages before (w.printed old) left printed (agree_on no_place before (w.image s1) left first.agrees has.0) (has.1 ∙ first.told))) in
     let same1 : w.image s1 ≡ before = λ i place. sym (first.agrees place refl) i in
     let same2 : w.image s2 ≡ before = (λ i place. sym (second.agrees place refl) i) ∙ same1 in
     let gate : before doublewrite_gate ≡ 1 = sym (c.in_ok-read_gate.ensures.gate tells) ∙ c.if-branch-ne1.false in
@@ -175,13 +175,13 @@ returns-clause-stops g c = λ tells.
     let moved : (left : Image) → Agree (page_places taken) (w.image s2) left → Agree (page_places (copied_pages before)) before left = λ left agree place out. (λ i. sym same2 i place) ∙ agree place (ap (λ (ns : List ℕ). page_places ns place) are ∙ out) in
     let s3 = c.lay.new.world in
     let third = c.in_ok-lay.ensures.wrote.phase in
-    let l3 = chains w.clock w.left_since old s2 s3 P l2 (widens w.clock w.left_since s2 s3 _ P third.leaves (λ left said left_has. while_laying pages before (w.printed old) left said gate has (moved left left_has.0) (left_has.1 ∙ told2))) in
+    let l3 = chains w.clock w.left_since old s2 s3 P l2 (widens w.clock w.left_since s2 s3 _ P third.leaves (λ left printed left_has. while_laying pages before (w.printed old) left printed gate has (moved left left_has.0) (left_has.1 ∙ told2))) in
     let told3 = third.told ∙ told2 in
     let placed : area (w.image s3) ≡ puts (copies before) (area before) = (c.in_ok-lay.ensures.placed tells).placed ∙ (λ i. puts (copies_from (same2 i) 0 (length taken)) (area (same2 i))) ∙ ap (λ (ranges : List Range). puts ranges (area before)) (copies_taken before numbers c.in_ok-count.count gate all.all count small) in
     let over = over_by pages before (w.image s3) gate has (moved (w.image s3) third.agrees) placed in
     let s4 = c.set_gate.new.world in
     let fourth = c.in_ok-set_gate.ensures.wrote.phase in
-    let l4 = chains w.clock w.left_since old s3 s4 P l3 (widens w.clock w.left_since s3 s4 _ P fourth.leaves (λ left said left_has. while_ending pages before (w.image s3) (w.printed old) left said gate has over left_has.0 (left_has.1 ∙ told3))) in
+    let l4 = chains w.clock w.left_since old s3 s4 P l3 (widens w.clock w.left_since s3 s4 _ P fourth.leaves (λ left printed left_has. while_ending pages before (w.image s3) (w.printed old) left printed gate has over left_has.0 (left_has.1 ∙ told3))) in
     l4
 
 pub returns-clause-done : goal.returns-clause-done
@@ -193,11 +193,11 @@ returns-clause-done g c = λ tells.
     let P : Image → List ℕ → Type 0 = RestoreLeft pages before (w.printed old) in
     let s1 = c.read_gate.new.world in
     let first = reads_phase w old c.read_gate.new.world _ c.in_ok-read_gate.ensures.reads in
-    let l1 = widens w.clock w.left_since old s1 _ P first.leaves (λ left said has. unchanged pages before (w.printed old) left said has.0 has.1) in
+    let l1 = widens w.clock w.left_since old s1 _ P first.leaves (λ left printed has. unchanged pages before (w.printed old) left printed has.0 has.1) in
     let s2 = c.read_list.new.world in
     let second = reads_phase w c.read_gate.new.world c.read_list.new.world _ c.in_ok-count.ensures.reads in
     let told2 = second.told ∙ first.told in
-    let l2 = chains w.clock w.left_since old s1 s2 P l1 (widens w.clock w.left_since s1 s2 _ P second.leaves (λ left said has. unchanged pages before (w.printed old) left said (agree_on no_place before (w.image s1) left first.agrees has.0) (has.1 ∙ first.told))) in
+    let l2 = chains w.clock w.left_since old s1 s2 P l1 (widens w.clock w.left_since s1 s2 _ P second.leaves (λ left printed has. unchanged pages before (w.printed old) left printed (agree_on no_place before (w.image s1) left first.agrees has.0) (has.1 ∙ first.told))) in
     let same1 : w.image s1 ≡ before = λ i place. sym (first.agrees place refl) i in
     let same2 : w.image s2 ≡ before = (λ i place. sym (second.agrees place refl) i) ∙ same1 in
     let gate : before doublewrite_gate ≡ 1 = sym (c.in_ok-read_gate.ensures.gate tells) ∙ c.if-branch-ne1.false in
@@ -212,11 +212,11 @@ returns-clause-done g c = λ tells.
     let moved : (left : Image) → Agree (page_places taken) (w.image s2) left → Agree (page_places (copied_pages before)) before left = λ left agree place out. (λ i. sym same2 i place) ∙ agree place (ap (λ (ns : List ℕ). page_places ns place) are ∙ out) in
     let s3 = c.lay.new.world in
     let third = c.in_ok-lay.ensures.wrote.phase in
-    let l3 = chains w.clock w.left_since old s2 s3 P l2 (widens w.clock w.left_since s2 s3 _ P third.leaves (λ left said left_has. while_laying pages before (w.printed old) left said gate has (moved left left_has.0) (left_has.1 ∙ told2))) in
+    let l3 = chains w.clock w.left_since old s2 s3 P l2 (widens w.clock w.left_since s2 s3 _ P third.leaves (λ left printed left_has. while_laying pages before (w.printed old) left printed gate has (moved left left_has.0) (left_has.1 ∙ told2))) in
     let told3 = third.told ∙ told2 in
     let placed : area (w.image s3) ≡ puts (copies before) (area before) = (c.in_ok-lay.ensures.placed tells).placed ∙ (λ i. puts (copies_from (same2 i) 0 (length taken)) (area (same2 i))) ∙ ap (λ (ranges : List Range). puts ranges (area before)) (copies_taken before numbers c.in_ok-count.count gate all.all count small) in
     let over = over_by pages before (w.image s3) gate has (moved (w.image s3) third.agrees) placed in
     let s4 = c.set_gate.new.world in
     let fourth = c.in_ok-set_gate.ensures.wrote.phase in
-    let l4 = chains w.clock w.left_since old s3 s4 P l3 (widens w.clock w.left_since s3 s4 _ P fourth.leaves (λ left said left_has. while_ending pages before (w.image s3) (w.printed old) left said gate has over left_has.0 (left_has.1 ∙ told3))) in
+    let l4 = chains w.clock w.left_since old s3 s4 P l3 (widens w.clock w.left_since s3 s4 _ P fourth.leaves (λ left printed left_has. while_ending pages before (w.image s3) (w.printed old) left printed gate has over left_has.0 (left_has.1 ∙ told3))) in
     ended_by pages before (w.image s3) (w.image s4) gate has over fourth.agrees (c.in_ok-set_gate.ensures.written tells)

@@ -2,7 +2,7 @@ use Rattle.std.proofs.Common.{◌≡◌, ◌+◌, ◌≤◌, List, arith, count_
 use Rattle.isp_frames.specs.Gathered.{IsTaken}
 use Rattle.isp_frames.proofs.Gathering.{none_left, taken_none}
 use Rattle.isp_frames.proofs.KeptLaws.{cleaned_unpinned}
-use Rattle.isp_page.specs.declared.page.Page.{Page}
+use Rattle.isp_format.specs.declared.page.Page.{Page}
 use Rattle.isp_base.specs.declared.page_no.PageNo.{PageNo}
 use Rattle.isp_pool.specs.Frames.{is_dirty}
 use Rattle.isp_frames.proofs.cleaning.gather.Goals as goal

@@ -1,7 +1,7 @@
 use Rattle.std.proofs.Common.{List, [], ◌∷◌, ◌++◌, sym, subst}
 use Rattle.isp_frames.specs.Gathered.{IsTaken}
 use Rattle.isp_frames.proofs.Gathering.{taken_more}
-use Rattle.isp_page.specs.declared.page.Page.{Page}
+use Rattle.isp_format.specs.declared.page.Page.{Page}
 use Rattle.isp_base.specs.declared.page_no.PageNo.{PageNo}
 use Rattle.isp_pool.specs.Frames.{PoolState}
 use Rattle.isp_frames.proofs.cleaning.take.Goals as goal

@@ -1,14 +1,16 @@
 use Rattle.std.proofs.Common.{◌≡◌, ℕ, ◌+◌, ◌*◌, ◌<◌, List, [], ◌∷◌, length, sym, ◌∙◌, ap, subst, arith, rules}
 use Rattle.isp_disk.specs.Moments.{Image, Within, in_range, put}
-use Rattle.isp_disk.proofs.Moments.{agree_on}
-use Rattle.isp_disk.proofs.Phases.{begins, writes}
+use Rattle.isp_disk.proofs.MomentLaws.{agree_on}
+use Rattle.isp_disk.proofs.PhaseLaws.{begins, writes}
 use Rattle.isp_format.specs.Doublewrite.{area, area_place, doublewrite_gate}
 use Rattle.isp_format.specs.Empty.{first_fresh}
 use Rattle.isp_format.specs.Log.{log_place}
 use Rattle.isp_format.specs.Ranges.{page_bytes}
-use Rattle.isp_making.specs.Places.{IsWritten, content_places, control_bytes, first_places}
-use Rattle.isp_making.proofs.EmptyPages.{page_more}
-use Rattle.isp_making.proofs.Writing.{control_long, control_within, copies_within, log_within, page_within, pages_within, with_front, written_by}
+use Rattle.isp_format.specs.Control.{control_bytes}
+use Rattle.isp_format.proofs.ControlBytes.{control_long}
+use Rattle.isp_format.proofs.EmptyPages.{page_more}
+use Rattle.isp_making.specs.Places.{IsWritten, content_places, first_places}
+use Rattle.isp_making.proofs.Writing.{control_within, copies_within, log_within, page_within, pages_within, with_front, written_by}
 use Rattle.isp_making.proofs.making.write_contents.Goals as goal
 
 pub returns-in_err-write-clause-wrote : goal.returns-in_err-write-clause-wrote
@@ -18,7 +20,7 @@ returns-in_err-write-clause-wrote g c =
     let size = length c.control_bytes.result in
     let long : size ≡ 63 = ap length c.control_bytes.ensures ∙ control_long c.args.pages c.args.fanout in
     let within : Within (in_range 0 size) content_places = subst (λ (n : ℕ). Within (in_range 0 n) content_places) (sym long) control_within in
-    let begun = begins w old content_places c.requires (λ left told since. g.met.W.World.only_now old left told since) in
+    let begun = begins w old content_places c.requires (λ left printed since. g.met.W.World.only_now old left printed since) in
     let first = writes w old old c.write.new.self content_places 0 size begun within c.in_err-write.ensures.disk c.in_err-write.ensures.printed c.in_err-write.ensures.time in
     record { phase = first; quiet = search rules; calls = search rules }
 
@@ -29,7 +31,7 @@ returns-in_err-write-2-clause-wrote g c =
     let size = length c.control_bytes.result in
     let long : size ≡ 63 = ap length c.control_bytes.ensures ∙ control_long c.args.pages c.args.fanout in
     let within : Within (in_range 0 size) content_places = subst (λ (n : ℕ). Within (in_range 0 n) content_places) (sym long) control_within in
-    let begun = begins w old content_places c.requires (λ left told since. g.met.W.World.only_now old left told since) in
+    let begun = begins w old content_places c.requires (λ left printed since. g.met.W.World.only_now old left printed since) in
     let first = writes w old old c.write.new.self content_places 0 size begun within c.in_ok-write.ensures.disk c.in_ok-write.ensures.printed c.in_ok-write.ensures.time in
     let second = writes w old c.write.new.self c.write-2.new.self content_places doublewrite_gate 1 first copies_within c.in_err-write-2.ensures.disk c.in_err-write-2.ensures.printed c.in_err-write-2.ensures.time in
     record { phase = second; quiet = search rules; calls = search rules }
@@ -41,7 +43,7 @@ returns-in_err-write-3-clause-wrote g c =
     let size = length c.control_bytes.result in
     let long : size ≡ 63 = ap length c.control_bytes.ensures ∙ control_long c.args.pages c.args.fanout in
     let within : Within (in_range 0 size) content_places = subst (λ (n : ℕ). Within (in_range 0 n) content_places) (sym long) control_within in
-    let begun = begins w old content_places c.requires (λ left told since. g.met.W.World.only_now old left told since) in
+    let begun = begins w old content_places c.requires (λ left printed since. g.met.W.World.only_now old left printed since) in
     let first = writes w old old c.write.new.self content_places 0 size begun within c.in_ok-write.ensures.disk c.in_ok-write.ensures.printed c.in_ok-write.ensures.time in
     let second = writes w old c.write.new.self c.write-2.new.self content_places doublewrite_gate 1 first copies_within c.in_ok-write-2.ensures.disk c.in_ok-write-2.ensures.printed c.in_ok-write-2.ensures.time in
     let third = writes w old c.write-2.new.self c.write-3.new.self content_places log_place 1 second log_within c.in_err-write-3.ensures.disk c.in_err-write-3.ensures.printed c.in_err-write-3.ensures.time in
@@ -54,7 +56,7 @@ loop-number-init g c =
     let size = length c.control_bytes.result in
     let long : size ≡ 63 = ap length c.control_bytes.ensures ∙ control_long c.args.pages c.args.fanout in
     let within : Within (in_range 0 size) content_places = subst (λ (n : ℕ). Within (in_range 0 n) content_places) (sym long) control_within in
-    let begun = begins w old content_places c.requires (λ left told since. g.met.W.World.only_now old left told since) in
+    let begun = begins w old content_places c.requires (λ left printed since. g.met.W.World.only_now old left printed since) in
     let first = writes w old old c.write.new.self content_places 0 size begun within c.in_ok-write.ensures.disk c.in_ok-write.ensures.printed c.in_ok-write.ensures.time in
     let second = writes w old c.write.new.self c.write-2.new.self content_places doublewrite_gate 1 first copies_within c.in_ok-write-2.ensures.disk c.in_ok-write-2.ensures.printed c.in_ok-write-2.ensures.time in
     let third = writes w old c.write-2.new.self c.write-3.new.self content_places log_place 1 second log_within c.in_ok-write-3.ensures.disk c.in_ok-write-3.ensures.printed c.in_ok-write-3.ensures.time in

@@ -13,14 +13,14 @@ returns-in_err-lay_copies-clause-kept g c =
     let first = c.in_ok-make_durable.ensures in
     let second = c.in_ok-found.ensures in
     let third = c.in_err-lay_copies.ensures in
-    let told = second.reads.calls.printed ∙ first.ends.calls.printed in
+    let same_printed = second.reads.calls.printed ∙ first.ends.calls.printed in
     record {
-      printed = third.ends.calls.printed ∙ told;
+      printed = third.ends.calls.printed ∙ same_printed;
       printer = third.ends.calls.printer ∙ second.reads.calls.printer ∙ first.ends.calls.printer;
       stops = λ tells.
           let kept : KeepsRules (w.image old) found = subst (λ (image : Image). KeepsRules image found) first.same (second.kept tells) in
           restored w old read c.lay_copies.new.world found.control.pages (contents_of (w.image old) found kept) kept.pages (stands (w.image old) found kept)
-          (tested w old c.make_durable.new.world read first.left first.same first.ends.calls.printed second.reads.leaves) (second.reads.same ∙ first.same) told (third.stops tells);
+          (tested w old c.make_durable.new.world read first.left first.same first.ends.calls.printed second.reads.leaves) (second.reads.same ∙ first.same) same_printed (third.stops tells);
     }
 
 pub returns-clause-kept : goal.returns-clause-kept
@@ -32,14 +32,14 @@ returns-clause-kept g c =
     let first = c.in_ok-make_durable.ensures in
     let second = c.in_ok-found.ensures in
     let third = c.in_ok-lay_copies.ensures in
-    let told = second.reads.calls.printed ∙ first.ends.calls.printed in
+    let same_printed = second.reads.calls.printed ∙ first.ends.calls.printed in
     record {
-      printed = third.ends.calls.printed ∙ told;
+      printed = third.ends.calls.printed ∙ same_printed;
       printer = third.ends.calls.printer ∙ second.reads.calls.printer ∙ first.ends.calls.printer;
       stops = λ tells.
           let kept : KeepsRules (w.image old) found = subst (λ (image : Image). KeepsRules image found) first.same (second.kept tells) in
           restored w old read c.lay_copies.new.world found.control.pages (contents_of (w.image old) found kept) kept.pages (stands (w.image old) found kept)
-          (tested w old c.make_durable.new.world read first.left first.same first.ends.calls.printed second.reads.leaves) (second.reads.same ∙ first.same) told (third.stops tells);
+          (tested w old c.make_durable.new.world read first.left first.same first.ends.calls.printed second.reads.leaves) (second.reads.same ∙ first.same) same_printed (third.stops tells);
     }
 
 pub returns-clause-opened : goal.returns-clause-opened

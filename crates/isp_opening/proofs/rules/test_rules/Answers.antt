@@ -3,8 +3,8 @@ use Rattle.std.specs.Option.{option_map}
 use Rattle.isp_disk.specs.Moments.{Image}
 use Rattle.isp_format.specs.Doublewrite.{HasCopies}
 use Rattle.isp_format.specs.Log.{IsLog, log_of}
-use Rattle.isp_opening.specs.Finding.{FindsControl}
-use Rattle.isp_opening.specs.declared.control.Control.{Control}
+use Rattle.isp_format.specs.ControlValues.{FindsControl}
+use Rattle.isp_format.specs.declared.control.Control.{Control}
 use Rattle.isp_redo.specs.Reading.{FindsEnd}
 use Rattle.isp_redo.specs.declared.log.Log.{Log}
 use Rattle.isp_opening.proofs.rules.test_rules.Goals as goal

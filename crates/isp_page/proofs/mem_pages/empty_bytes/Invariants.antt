@@ -1,8 +1,12 @@
-use Rattle.std.proofs.Common.{◌≡◌, ℕ, ◌*◌, length}
+use Rattle.std.proofs.Common.{◌≡◌, ℕ, ◌*◌, ◌<◌, ◌≤◌, length}
 use Rattle.isp_disk.specs.Moments.{image_of}
-use Rattle.isp_format.specs.Empty.{first_headers}
-use Rattle.isp_format.specs.Ranges.{page_bytes, puts}
+use Rattle.isp_format.specs.Empty.{empty_contents}
+use Rattle.isp_format.specs.Ranges.{page_bytes}
 use Rattle.isp_page.proofs.mem_pages.empty_bytes.Given as goal
 
 abbrev pub invariant-loop-page : goal.invariant-loop-page
-invariant-loop-page l = (length l.bytes.items ≡ l.pages * page_bytes) × ((place : ℕ) → image_of l.bytes.items place ≡ puts (first_headers l.page) (λ place. 0) place)
+invariant-loop-page l = record {
+  size : length l.bytes.items ≡ l.pages * page_bytes;
+  before : (place : ℕ) → place < l.page * page_bytes → image_of l.bytes.items place ≡ empty_contents place;
+  behind : (place : ℕ) → l.page * page_bytes ≤ place → image_of l.bytes.items place ≡ 0;
+}

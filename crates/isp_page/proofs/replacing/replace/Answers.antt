@@ -3,7 +3,7 @@ use Rattle.std.proofs.lemmas.Result.{on_ok_weaker}
 use Rattle.isp_format.specs.Ranges.{Contents, page_bytes, page_of}
 use Rattle.isp_page.specs.Touched.{KeepsPages, is_page}
 use Rattle.isp_page.proofs.Differences.{part_long, replaced}
-use Rattle.isp_page.proofs.Growing.{grows_one}
+use Rattle.isp_page.proofs.GrowthLaws.{grows_one}
 use Rattle.isp_page.proofs.Touching.{change_keeps}
 use Rattle.isp_page.proofs.replacing.replace.Goals as goal
 

@@ -1,4 +1,4 @@
-use Rattle.isp_redo.proofs.Ahead.{begins_at}
+use Rattle.isp_redo.proofs.PlaceLaws.{begins_at}
 use Rattle.isp_redo.proofs.laws.law_all_ranges_lie_ahead.Goals as goal
 
 pub returns : goal.returns

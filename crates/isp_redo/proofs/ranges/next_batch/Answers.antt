@@ -10,9 +10,9 @@ returns-then-branch-ne1-clause-leads g c tells pages few ranges is =
     let shut = c.if-branch-ne1.true in
     ends_at pages (log_of (g.W.World.image c.args.world.now)) c.args.end ranges (λ one. shut (sym (c.in_ok-read_gate.ensures.gate tells) ∙ one)) is
 
-pub returns-then-end-lt6-clause-leads : goal.returns-then-end-lt6-clause-leads
-returns-then-end-lt6-clause-leads g c tells pages few ranges is =
-    no_room_at pages (log_of (g.W.World.image c.args.world.now)) c.args.end ranges (c.in_ok-read_gate.ensures.gate tells ∙ c.if-branch-ne1.false) c.if-end-lt6.true is
+pub returns-then-end-clause-leads : goal.returns-then-end-clause-leads
+returns-then-end-clause-leads g c tells pages few ranges is =
+    no_room_at pages (log_of (g.W.World.image c.args.world.now)) c.args.end ranges (c.in_ok-read_gate.ensures.gate tells ∙ c.if-branch-ne1.false) c.if-end.true is
 
 pub returns-then-size-end-clause-leads : goal.returns-then-size-end-clause-leads
 returns-then-size-end-clause-leads g c tells pages few ranges is =

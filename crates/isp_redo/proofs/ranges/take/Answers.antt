@@ -3,16 +3,17 @@ use Rattle.std.proofs.lemmas.Bool.Decides.{nat_tests}
 use Rattle.isp_disk.specs.Moments.{Image, slice}
 use Rattle.isp_format.specs.Log.{log_of}
 use Rattle.isp_redo.specs.Places.{IsAt}
-use Rattle.isp_redo.specs.declared.ranges.Place.{Place}
+use Rattle.isp_redo.specs.declared.ranges.LogPlace.{LogPlace}
 use Rattle.isp_redo.proofs.Ahead.{takes_at}
-use Rattle.isp_redo.proofs.Positions.{header_is, range_forward}
+use Rattle.isp_redo.proofs.PlaceLaws.{range_forward}
+use Rattle.isp_redo.proofs.Positions.{header_is}
 use Rattle.isp_redo.proofs.ranges.take.Goals as goal
 
-pub returns-then-place-lt8-clause-found : goal.returns-then-place-lt8-clause-found
-returns-then-place-lt8-clause-found g c tells pages few ranges is =
+pub returns-then-place-lt-RANGE_HEAD-clause-found : goal.returns-then-place-lt-RANGE_HEAD-clause-found
+returns-then-place-lt-RANGE_HEAD-clause-found g c tells pages few ranges is =
     let log = log_of (g.W.World.image c.args.world.now) in
     let taken = takes_at pages log c.args.place ranges c.requires.left.0 is in
-    let short = c.if-place-lt8.true in
+    let short = c.if-place-lt-RANGE_HEAD.true in
     absurd (omega (arith, short, taken.inside, range_forward pages log c.args.place.at taken.range taken.next taken.is))
 
 -- a header that a range has was tested to no avail
@@ -51,6 +52,6 @@ returns-clause-found g c tells pages few ranges is =
     let from = c.from-len.ensures in
     let some = c.requires.left.0 in
     let next_is : taken.next ≡ c.args.place.at + 8 + c.from-len.result = omega (arith, taken.is.behind, same.2, from) in
-    let place : Place = record { at = c.args.place.at + 8 + c.from-len.result; left = c.args.place.left - 1; end = c.args.place.end } in
+    let place : LogPlace = record { at = c.args.place.at + 8 + c.from-len.result; left = c.args.place.left - 1; end = c.args.place.end } in
     let ahead : IsAt pages log place taken.others = subst (λ (p : ℕ). IsAt pages log (record { at = p; left = c.args.place.left - 1; end = c.args.place.end }) taken.others) next_is (taken.then_at (c.args.place.left - 1) (omega (arith, some))) in
-    (taken.range, taken.others, taken.ranges_are, same.0, same.1, same.2, bytes, subst (λ (p : Place). IsAt pages log p taken.others) (sym c.pack.ensures) ahead)
+    (taken.range, taken.others, taken.ranges_are, same.0, same.1, same.2, bytes, subst (λ (p : LogPlace). IsAt pages log p taken.others) (sym c.pack.ensures) ahead)

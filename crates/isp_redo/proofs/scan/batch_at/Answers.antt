@@ -17,7 +17,7 @@ returns-in-Some-clause-found g c tells =
     let stands : slice (log_of (w.image old)) (at + 1) 4 ≡ bytes_of 4 size =
     ap (λ (i : Image). slice (log_of i) (at + 1) 4) (sym c.read_gate.ensures.reads.same) ∙ c.in_ok-read_size.ensures.size tells ∙ ap (bytes_of 4) (sym c.from-size.ensures) in
     let body = subst (λ (o : Option ℕ). FindsBody c.args.pages (log_of (w.image c.read_size.new.world)) (at + 5) (at + 5 + size) o) c.in-Some.is (c.in_ok-next.ensures.found tells) in
-    let room = c.if-at-lt6.false in
+    let room = c.if-at.false in
     let small = c.if-size-at.false in
     let are = subst (λ (i : Image). AreTransactionsAt c.args.pages (log_of i) (at + 5) body.0 (at + 5 + size)) same body.2 in
     let is = batch_made c.args.pages (log_of (w.image old)) at size body.0 gate stands (omega (arith, room, small)) body.1 are in

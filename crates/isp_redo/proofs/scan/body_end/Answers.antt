@@ -1,9 +1,10 @@
 use Rattle.std.proofs.Common.{◌++◌, [], ◌∷◌, ℕ, sym, subst, arith, Option}
 use Rattle.isp_disk.specs.Moments.{Image}
-use Rattle.isp_disk.proofs.Phases.{reads_more}
+use Rattle.isp_disk.proofs.PhaseLaws.{reads_more}
 use Rattle.isp_format.specs.Log.{log_of}
 use Rattle.isp_redo.specs.Reading.{FindsTransaction, IsOnward, IsTransactionAt}
-use Rattle.isp_redo.proofs.Positions.{transaction_forward, transactions_forward, transactions_on, transactions_rest}
+use Rattle.isp_redo.proofs.PlaceLaws.{transaction_forward, transactions_forward}
+use Rattle.isp_redo.proofs.Positions.{transactions_on, transactions_rest}
 use Rattle.isp_redo.proofs.scan.body_end.Goals as goal
 
 pub returns-then-at-end-clause-found : goal.returns-then-at-end-clause-found

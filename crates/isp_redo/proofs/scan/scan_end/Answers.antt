@@ -1,6 +1,6 @@
 use Rattle.std.proofs.Common.{◌++◌, [], ◌∷◌, sym, ◌∙◌, ap, subst}
 use Rattle.isp_disk.specs.Moments.{Image}
-use Rattle.isp_disk.proofs.Phases.{reads_more}
+use Rattle.isp_disk.proofs.PhaseLaws.{reads_more}
 use Rattle.isp_format.specs.Log.{IsBatch, log_of}
 use Rattle.isp_format.proofs.LogWalks.{walk_ends, walk_on}
 use Rattle.isp_redo.specs.declared.scan.Step.{Step}

@@ -1,16 +1,17 @@
 use Rattle.std.proofs.Common.{◌+◌, ◌<◌, ◌≤◌, ◌++◌, [], ◌∷◌, ℕ, List, length, None, ◌∙◌, ap, subst, arith, Option}
 use Rattle.std.proofs.lemmas.List.{length-append}
 use Rattle.isp_disk.specs.Moments.{Image}
-use Rattle.isp_disk.proofs.Phases.{reads_more}
+use Rattle.isp_disk.proofs.PhaseLaws.{reads_more}
 use Rattle.isp_format.specs.Log.{log_of}
 use Rattle.isp_format.specs.Ranges.{Range}
 use Rattle.isp_redo.specs.Reading.{AreRangesAt, FindsRange, IsOnward, IsRangeAt}
-use Rattle.isp_redo.proofs.Positions.{count_is, ranges_forward, ranges_on, ranges_rest, transaction_forward}
+use Rattle.isp_redo.proofs.PlaceLaws.{ranges_forward, transaction_forward}
+use Rattle.isp_redo.proofs.Positions.{count_is, ranges_on, ranges_rest}
 use Rattle.isp_redo.proofs.scan.transaction_end.Goals as goal
 
-pub returns-then-end-at-lt2-clause-found : goal.returns-then-end-at-lt2-clause-found
-returns-then-end-at-lt2-clause-found g c tells ranges next less is =
-    let short = c.if-end-at-lt2.true in
+pub returns-then-end-at-lt-COUNT_BYTES-clause-found : goal.returns-then-end-at-lt-COUNT_BYTES-clause-found
+returns-then-end-at-lt-COUNT_BYTES-clause-found g c tells ranges next less is =
+    let short = c.if-end-at-lt-COUNT_BYTES.true in
     absurd (omega (arith, short, less, transaction_forward c.args.pages (log_of (g.W.World.image c.args.world.now)) c.args.at ranges next is))
 
 -- the first of ranges that stand there

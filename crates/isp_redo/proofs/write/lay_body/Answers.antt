@@ -1,6 +1,6 @@
 use Rattle.std.proofs.Common.{◌+◌, [], ◌∷◌, length, refl, sym, subst, ◌∙◌, ap, arith, rules}
 use Rattle.isp_disk.specs.Moments.{Image, in_range, put}
-use Rattle.isp_disk.proofs.Phases.{begins, keeps, writes}
+use Rattle.isp_disk.proofs.PhaseLaws.{begins, keeps, writes}
 use Rattle.isp_format.specs.Numbers.{bytes_of}
 use Rattle.isp_format.proofs.Offsets.{range_within}
 use Rattle.isp_redo.proofs.Laying.{laid_has}
@@ -12,7 +12,7 @@ returns-in_err-write-clause-wrote g c =
     let w = g.W.World in
     let old = c.args.world.now in
     let region = in_range (c.args.at + 1) (length c.args.body.now + 5) in
-    let begun = begins w old region c.requires.quiet (λ left told since. g.met.W.World.only_now old left told since) in
+    let begun = begins w old region c.requires.quiet (λ left printed since. g.met.W.World.only_now old left printed since) in
     let sized = writes w old old c.write_size.new.world region (c.args.at + 1) 4 begun (range_within _ _ _ _ (omega arith) (omega arith)) c.in_ok-write_size.ensures.write.disk c.in_ok-write_size.ensures.write.calls.printed c.in_ok-write_size.ensures.write.time in
     let written = writes w old c.write_size.new.world c.write.new.self region (c.args.at + 5) (length c.args.body.now) sized (range_within _ _ _ _ (omega arith) (omega arith)) c.in_err-write.ensures.disk c.in_err-write.ensures.printed c.in_err-write.ensures.time in
     record { phase = written; quiet = search rules; calls = search rules }
@@ -22,7 +22,7 @@ returns-in_err-write-2-clause-wrote g c =
     let w = g.W.World in
     let old = c.args.world.now in
     let region = in_range (c.args.at + 1) (length c.args.body.now + 5) in
-    let begun = begins w old region c.requires.quiet (λ left told since. g.met.W.World.only_now old left told since) in
+    let begun = begins w old region c.requires.quiet (λ left printed since. g.met.W.World.only_now old left printed since) in
     let sized = writes w old old c.write_size.new.world region (c.args.at + 1) 4 begun (range_within _ _ _ _ (omega arith) (omega arith)) c.in_ok-write_size.ensures.write.disk c.in_ok-write_size.ensures.write.calls.printed c.in_ok-write_size.ensures.write.time in
     let written = writes w old c.write_size.new.world c.write.new.self region (c.args.at + 5) (length c.args.body.now) sized (range_within _ _ _ _ (omega arith) (omega arith)) c.in_ok-write.ensures.disk c.in_ok-write.ensures.printed c.in_ok-write.ensures.time in
     let gated = writes w old c.write.new.self c.write-2.new.self region (c.args.at + 5 + length c.args.body.now) 1 written (range_within _ _ _ _ (omega arith) (omega arith)) c.in_err-write-2.ensures.disk c.in_err-write-2.ensures.printed c.in_err-write-2.ensures.time in
@@ -33,7 +33,7 @@ returns-in_err-sync-clause-wrote g c =
     let w = g.W.World in
     let old = c.args.world.now in
     let region = in_range (c.args.at + 1) (length c.args.body.now + 5) in
-    let begun = begins w old region c.requires.quiet (λ left told since. g.met.W.World.only_now old left told since) in
+    let begun = begins w old region c.requires.quiet (λ left printed since. g.met.W.World.only_now old left printed since) in
     let sized = writes w old old c.write_size.new.world region (c.args.at + 1) 4 begun (range_within _ _ _ _ (omega arith) (omega arith)) c.in_ok-write_size.ensures.write.disk c.in_ok-write_size.ensures.write.calls.printed c.in_ok-write_size.ensures.write.time in
     let written = writes w old c.write_size.new.world c.write.new.self region (c.args.at + 5) (length c.args.body.now) sized (range_within _ _ _ _ (omega arith) (omega arith)) c.in_ok-write.ensures.disk c.in_ok-write.ensures.printed c.in_ok-write.ensures.time in
     let gated = writes w old c.write.new.self c.write-2.new.self region (c.args.at + 5 + length c.args.body.now) 1 written (range_within _ _ _ _ (omega arith) (omega arith)) c.in_ok-write-2.ensures.disk c.in_ok-write-2.ensures.printed c.in_ok-write-2.ensures.time in
@@ -45,7 +45,7 @@ returns-clause-wrote g c =
     let w = g.W.World in
     let old = c.args.world.now in
     let region = in_range (c.args.at + 1) (length c.args.body.now + 5) in
-    let begun = begins w old region c.requires.quiet (λ left told since. g.met.W.World.only_now old left told since) in
+    let begun = begins w old region c.requires.quiet (λ left printed since. g.met.W.World.only_now old left printed since) in
     let sized = writes w old old c.write_size.new.world region (c.args.at + 1) 4 begun (range_within _ _ _ _ (omega arith) (omega arith)) c.in_ok-write_size.ensures.write.disk c.in_ok-write_size.ensures.write.calls.printed c.in_ok-write_size.ensures.write.time in
     let written = writes w old c.write_size.new.world c.write.new.self region (c.args.at + 5) (length c.args.body.now) sized (range_within _ _ _ _ (omega arith) (omega arith)) c.in_ok-write.ensures.disk c.in_ok-write.ensures.printed c.in_ok-write.ensures.time in
     let gated = writes w old c.write.new.self c.write-2.new.self region (c.args.at + 5 + length c.args.body.now) 1 written (range_within _ _ _ _ (omega arith) (omega arith)) c.in_ok-write-2.ensures.disk c.in_ok-write-2.ensures.printed c.in_ok-write-2.ensures.time in

@@ -1,13 +1,13 @@
 use Rattle.std.proofs.Common.{◌∙◌, Ok, arith, refl, rules, ap, subst}
 use Rattle.std.specs.Prelude.{Option, ℕ}
-use Rattle.isp_frames.proofs.Staying.{shape_same, shape_twice, stands_still}
-use Rattle.isp_disk.proofs.Phases.{calls_on}
+use Rattle.isp_frames.proofs.StayLaws.{shape_same, shape_twice, stands_still}
+use Rattle.isp_disk.proofs.PhaseLaws.{calls_on}
 use Rattle.isp_pool.specs.Frames.{is_pinned}
 use Rattle.isp_replay.specs.Putting.{IsPut}
 use Rattle.isp_replay.proofs.PoolAfter.{free_below}
 use Rattle.isp_replay.proofs.PutLaws.{none_put}
 use Rattle.isp_stable.specs.File.{placed}
-use Rattle.isp_stable.proofs.Files.{stands_on}
+use Rattle.isp_stable.proofs.FileLaws.{stands_on}
 use Rattle.isp_replay.proofs.replaying.put_ranges.Goals as goal
 
 pub putting-init : goal.putting-init
@@ -17,7 +17,7 @@ putting-init g c =
     record {
       put = λ tells file. record {
         put = none_put w s file c.requires.free;
-        stops = stands_still w s.stable file c.requires.quiet (λ left told since. g.met.W.World.only_now s.stable.world left told since);
+        stops = stands_still w s.stable file c.requires.quiet (λ left printed since. g.met.W.World.only_now s.stable.world left printed since);
         tested = tt;
       };
       kept = record {

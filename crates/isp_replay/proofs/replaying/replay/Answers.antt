@@ -4,8 +4,8 @@ use Rattle.isp_replay.proofs.Replayed.{replay_fails, stood_for, stops_put, stops
 use Rattle.isp_stable.specs.File.{placed}
 use Rattle.isp_replay.proofs.replaying.replay.Goals as goal
 
-pub settle-requires : goal.settle-requires
-settle-requires g c =
+pub checkpoint-requires : goal.checkpoint-requires
+checkpoint-requires g c =
     let put = c.in_ok-put_ranges.ensures in
     record {
       steady = record {
@@ -33,7 +33,7 @@ returns-in-Ok-clause-stood g c = λ tells.
     let s = c.args.cache.now in
     let file = c.requires.file tells in
     let put = (c.in_ok-put_ranges.ensures.put tells file).put in
-    stood_for w s c.settle.new.self.stable.world file _ (c.in-Ok.ensures.contents tells ∙ put_now w (placed w s.stable) file.batches c.put_ranges.new.cache put)
+    stood_for w s c.checkpoint.new.self.stable.world file _ (c.in-Ok.ensures.contents tells ∙ put_now w (placed w s.stable) file.batches c.put_ranges.new.cache put)
 
 pub returns-in-Ok-clause-stops : goal.returns-in-Ok-clause-stops
 returns-in-Ok-clause-stops g c = λ tells.
@@ -43,7 +43,7 @@ returns-in-Ok-clause-stops g c = λ tells.
     let file = c.requires.file tells in
     let ranges = c.in_ok-put_ranges.ensures in
     let put = ranges.put tells file in
-    stops_replayed w s mid c.settle.new.self.stable.world file put.put ranges.kept.shape ranges.kept.calls.printed put.stops (c.settle.ensures.stops tells (put_stands w (placed w s.stable) file.batches mid put.put))
+    stops_replayed w s mid c.checkpoint.new.self.stable.world file put.put ranges.kept.shape ranges.kept.calls.printed put.stops (c.checkpoint.ensures.stops tells (put_stands w (placed w s.stable) file.batches mid put.put))
 
 pub returns-in-Err-clause-stops : goal.returns-in-Err-clause-stops
 returns-in-Err-clause-stops g c = λ tells.
@@ -53,4 +53,4 @@ returns-in-Err-clause-stops g c = λ tells.
     let file = c.requires.file tells in
     let ranges = c.in_ok-put_ranges.ensures in
     let put = ranges.put tells file in
-    stops_replayed w s mid c.settle.new.self.stable.world file put.put ranges.kept.shape ranges.kept.calls.printed put.stops (c.settle.ensures.stops tells (put_stands w (placed w s.stable) file.batches mid put.put))
+    stops_replayed w s mid c.checkpoint.new.self.stable.world file put.put ranges.kept.shape ranges.kept.calls.printed put.stops (c.checkpoint.ensures.stops tells (put_stands w (placed w s.stable) file.batches mid put.put))

@@ -2,7 +2,7 @@ use Rattle.std.proofs.Common.{[], length, rules, subst, sym, true, ◌==◌, ◌
 use Rattle.std.proofs.lemmas.Result.{on_ok_weaker}
 use Rattle.isp_store.specs.Running.{IsRunning}
 use Rattle.isp_store.proofs.Putting.{still_held}
-use Rattle.isp_store.proofs.Settled.{cleaned_holds, none_open, stays_on}
+use Rattle.isp_store.proofs.Cleaned.{cleaned_holds, none_open, stays_on}
 use Rattle.isp_store.proofs.changing.change_page.Goals as goal
 
 pub put_bytes-requires-2-clause-running : goal.put_bytes-requires-2-clause-running

@@ -1,14 +1,14 @@
 use Rattle.std.proofs.Common.{◌∙◌, Ok, arith, refl}
 use Rattle.isp_frames.proofs.CacheLaws.{stays_still}
 use Rattle.isp_frames.proofs.KeptLaws.{cleaned_none, cleaned_twice}
-use Rattle.isp_frames.proofs.Staying.{idle_cleaned, kept_failed, kept_ok, kept_still, kept_twice}
+use Rattle.isp_frames.proofs.StayLaws.{idle_cleaned, kept_failed, kept_ok, kept_still, kept_twice}
 use Rattle.isp_frames.proofs.cache.Cache.clean_all.Goals as goal
 
 pub cleaning-init : goal.cleaning-init
 cleaning-init g c =
     let s = c.args.self.now in
     record {
-      kept = kept_still g.W.World s s tt refl refl c.requires.steady (λ left told since. g.met.W.World.only_now s.stable.world left told since) c.requires.steady.below (stays_still g.W.World s);
+      kept = kept_still g.W.World s s tt refl refl c.requires.steady (λ left printed since. g.met.W.World.only_now s.stable.world left printed since) c.requires.steady.below (stays_still g.W.World s);
       cleaned = cleaned_none s.pool;
       fewer = omega arith;
       untouched = λ none. refl;

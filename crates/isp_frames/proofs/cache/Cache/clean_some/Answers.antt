@@ -6,8 +6,8 @@ use Rattle.isp_format.specs.Ranges.{cover, puts}
 use Rattle.isp_frames.specs.Gathered.{IsGathered}
 use Rattle.isp_frames.proofs.CacheLaws.{stays_gathered}
 use Rattle.isp_frames.proofs.KeptLaws.{cleaned_below}
-use Rattle.isp_frames.proofs.Staying.{Gathers, kept_failed, kept_ok, kept_still, kept_unwritten, kept_written}
-use Rattle.isp_page.specs.declared.page.Page.{Page}
+use Rattle.isp_frames.proofs.StayLaws.{Gathers, kept_failed, kept_ok, kept_still, kept_unwritten, kept_written}
+use Rattle.isp_format.specs.declared.page.Page.{Page}
 use Rattle.isp_base.specs.declared.page_no.PageNo.{PageNo}
 use Rattle.isp_stable.specs.File.{placed}
 use Rattle.isp_frames.proofs.cache.Cache.clean_some.Goals as goal
@@ -20,7 +20,7 @@ returns-then-is_empty-clause-kept g c =
     let long : length items ≡ 0 = search rules in
     let nothing : [] ≡ items = sym (nil_from_length items long) in
     let new = record s { pool = c.gather.new.pool; batch = c.gather.new.batch } in
-    kept_still w s new _ refl c.gather.ensures.room c.requires.steady (λ left told since. g.met.W.World.only_now s.stable.world left told since)
+    kept_still w s new _ refl c.gather.ensures.room c.requires.steady (λ left printed since. g.met.W.World.only_now s.stable.world left printed since)
     (cleaned_below s.pool new.pool s.stable.pages c.gather.ensures.taken.cleaned c.requires.steady.below)
     (λ cached. stays_gathered w s new cached items
     (record { placed_are = ap (λ (batch : List (PageNo × Page)). puts (map whole_page batch) (placed w s.stable)) nothing; batches_are = (cached.file, refl); log_bytes_are = λ place low high. refl })

@@ -2,7 +2,7 @@ use Rattle.std.proofs.Common.{◌∙◌, Ok, inr, refl, sym, subst, ap}
 use Rattle.isp_frames.specs.Held.{AreBelow}
 use Rattle.isp_pool.specs.Frames.{PoolState, loaded}
 use Rattle.isp_frames.proofs.CacheLaws.{loaded_cleaned, stays_used}
-use Rattle.isp_frames.proofs.Staying.{kept_failed, kept_ok, kept_still, kept_twice}
+use Rattle.isp_frames.proofs.StayLaws.{kept_failed, kept_ok, kept_still, kept_twice}
 use Rattle.isp_frames.proofs.cache.Cache.hold.Goals as goal
 
 pub returns-in-Some-clause-kept : goal.returns-in-Some-clause-kept
@@ -10,7 +10,7 @@ returns-in-Some-clause-kept g c =
     let w = g.W.World in
     let s = c.args.self.now in
     let new = record s { pool = c.used.new.self } in
-    kept_still w s new c.in-Some.frame refl refl c.requires.steady (λ left told since. g.met.W.World.only_now s.stable.world left told since)
+    kept_still w s new c.in-Some.frame refl refl c.requires.steady (λ left printed since. g.met.W.World.only_now s.stable.world left printed since)
     (subst (λ (pool : PoolState). AreBelow s.stable.pages pool.frames) (sym c.used.ensures) c.requires.steady.below)
     (λ cached. stays_used w s new cached c.in-Some.frame refl c.used.ensures)
 

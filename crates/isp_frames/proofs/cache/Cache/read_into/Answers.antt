@@ -2,7 +2,7 @@ use Rattle.std.proofs.Common.{refl, sym, subst}
 use Rattle.isp_frames.specs.Held.{AreBelow}
 use Rattle.isp_frames.proofs.CacheLaws.{stays_loaded}
 use Rattle.isp_frames.proofs.HeldLaws.{loaded_below}
-use Rattle.isp_frames.proofs.Staying.{kept_failed, kept_read, kept_unread}
+use Rattle.isp_frames.proofs.StayLaws.{kept_failed, kept_read, kept_unread}
 use Rattle.isp_pool.specs.Frames.{PoolState}
 use Rattle.isp_frames.proofs.cache.Cache.read_into.Goals as goal
 

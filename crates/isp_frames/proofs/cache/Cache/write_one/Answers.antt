@@ -6,7 +6,7 @@ use Rattle.isp_frames.specs.Cached.{KeepsCache}
 use Rattle.isp_frames.specs.Held.{AreBelow, cleaned_at}
 use Rattle.isp_frames.proofs.Gathering.{gathered_one, numbered_by}
 use Rattle.isp_frames.proofs.KeptLaws.{cleaned_below, cleaned_one}
-use Rattle.isp_frames.proofs.Staying.{Gathers, kept_failed, kept_unwritten, kept_written}
+use Rattle.isp_frames.proofs.StayLaws.{Gathers, kept_failed, kept_unwritten, kept_written}
 use Rattle.isp_pool.specs.Frames.{PoolState, frame_at}
 use Rattle.isp_stable.specs.File.{placed}
 use Rattle.isp_frames.proofs.cache.Cache.write_one.Goals as goal

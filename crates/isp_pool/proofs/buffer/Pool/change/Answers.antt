@@ -1,6 +1,7 @@
 use Rattle.std.proofs.Common.{ap, ◌∙◌, ◌≡◌, true}
 use Rattle.isp_pool.specs.Frames.{with_frame, overwritten}
-use Rattle.isp_pool.proofs.PoolLaws.{changed_by, held_below}
+use Rattle.isp_pool.proofs.PoolLaws.{changed_by}
+use Rattle.isp_pool.proofs.StateLaws.{held_below}
 use Rattle.isp_pool.proofs.buffer.Pool.change.Goals as goal
 
 pub returns : goal.returns

@@ -1,6 +1,6 @@
 use Rattle.std.proofs.Common.{◌∙◌, arith, refl, rules}
-use Rattle.isp_stable.proofs.Files.{reads_only, reads_pages, reads_stable}
-use Rattle.isp_stable.proofs.Moves.{page_placed}
+use Rattle.isp_stable.proofs.FileLaws.{reads_only, reads_pages, reads_stable}
+use Rattle.isp_stable.proofs.ImageLaws.{page_placed}
 use Rattle.isp_stable.proofs.stable.Stable.read_page.Goals as goal
 
 pub returns-clause-page : goal.returns-clause-page

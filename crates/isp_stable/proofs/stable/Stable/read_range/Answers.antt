@@ -1,5 +1,5 @@
 use Rattle.std.proofs.Common.{◌≤◌, ℕ, refl, subst}
-use Rattle.isp_stable.proofs.Files.{reads_stable}
+use Rattle.isp_stable.proofs.FileLaws.{reads_stable}
 use Rattle.isp_stable.proofs.stable.Stable.read_range.Goals as goal
 
 pub returns-clause-reads : goal.returns-clause-reads

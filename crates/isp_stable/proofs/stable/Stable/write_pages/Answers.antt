@@ -1,7 +1,7 @@
 use Rattle.std.proofs.Common.{map}
-use Rattle.isp_disk.proofs.Moments.{widens}
+use Rattle.isp_disk.proofs.MomentLaws.{widens}
 use Rattle.isp_doublewrite.specs.Batches.{number_of, whole_page}
-use Rattle.isp_stable.proofs.Files.{beside, file_of, stands_by_batch}
+use Rattle.isp_stable.proofs.FileLaws.{beside, file_of, stands_by_batch}
 use Rattle.isp_stable.proofs.Moves.{beside_batch, log_beside_batch, log_by_batch}
 use Rattle.isp_stable.proofs.stable.Stable.write_pages.Goals as goal
 
@@ -25,7 +25,7 @@ returns-clause-stops g c = λ tells file covered.
     let s = c.args.self.now in
     let batch = c.args.batch.now in
     widens w.clock w.left_since s.world c.write_batch.new.world _ _ (c.in_ok-write_batch.ensures.stops tells)
-    (λ left told has. (stands_by_batch w s file (map whole_page batch) (map number_of batch) left covered has.copies has.whole has.others, has.same))
+    (λ left printed has. (stands_by_batch w s file (map whole_page batch) (map number_of batch) left covered has.copies has.whole has.others, has.same))
 
 pub returns-in_err-write_batch-clause-stops : goal.returns-in_err-write_batch-clause-stops
 returns-in_err-write_batch-clause-stops g c = λ tells file covered.
@@ -33,14 +33,14 @@ returns-in_err-write_batch-clause-stops g c = λ tells file covered.
     let s = c.args.self.now in
     let batch = c.args.batch.now in
     widens w.clock w.left_since s.world c.write_batch.new.world _ _ (c.in_err-write_batch.ensures.stops tells)
-    (λ left told has. (stands_by_batch w s file (map whole_page batch) (map number_of batch) left covered has.copies has.whole has.others, has.same))
+    (λ left printed has. (stands_by_batch w s file (map whole_page batch) (map number_of batch) left covered has.copies has.whole has.others, has.same))
 
 pub returns-clause-pages : goal.returns-clause-pages
 returns-clause-pages g c = λ tells file.
     let w = g.W.World in
-    widens w.clock w.left_since c.args.self.now.world c.write_batch.new.world _ _ (c.in_ok-write_batch.ensures.stops tells) (λ left told has. has.whole)
+    widens w.clock w.left_since c.args.self.now.world c.write_batch.new.world _ _ (c.in_ok-write_batch.ensures.stops tells) (λ left printed has. has.whole)
 
 pub returns-in_err-write_batch-clause-pages : goal.returns-in_err-write_batch-clause-pages
 returns-in_err-write_batch-clause-pages g c = λ tells file.
     let w = g.W.World in
-    widens w.clock w.left_since c.args.self.now.world c.write_batch.new.world _ _ (c.in_err-write_batch.ensures.stops tells) (λ left told has. has.whole)
+    widens w.clock w.left_since c.args.self.now.world c.write_batch.new.world _ _ (c.in_err-write_batch.ensures.stops tells) (λ left printed has. has.whole)
