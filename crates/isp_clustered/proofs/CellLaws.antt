@@ -17,7 +17,7 @@ use Rattle.isp_format.proofs.PageOnce.{head_once}
 use Rattle.isp_format.proofs.Parts.{number_next, slice_cut, slice_parts}
 use Rattle.isp_format.proofs.Slices.{piece_slice, slice_moved}
 use Rattle.isp_clustered.specs.Cells.{Stand, cell_of, kept_of, marked_in, place_in}
-use Rattle.isp_clustered.specs.Rows.{below, bytes_in, find, first_at, from}
+use Rattle.isp_clustered.specs.Rows.{below, bytes_in, can_drop, find, first_at, from, is_marked}
 use Rattle.isp_clustered.specs.declared.cells.Cell.{Cell}
 use Rattle.isp_clustered.specs.declared.cells.Place.{Place}
 use Rattle.isp_clustered.specs.declared.kept.Kept.{Kept}
@@ -119,7 +119,7 @@ stored_spread s more =
     ∙ ap (λ (rest : List ℕ). key_bytes s.key ++ (mark_byte s.marked ∷ (bytes_of 2 (slot_of s) ++ rest))) (append_assoc (bytes_of 2 (length s.row)) (s.row ++ s.rest) more)
     ∙ ap (λ (rest : List ℕ). key_bytes s.key ++ (mark_byte s.marked ∷ (bytes_of 2 (slot_of s) ++ (bytes_of 2 (length s.row) ++ rest)))) (append_assoc s.row s.rest more)
 
-key_small : (key : ℤ) → FitsSigned w64 key → cast_unsigned w64 key < 256 ^ 8
+pub key_small : (key : ℤ) → FitsSigned w64 key → cast_unsigned w64 key < 256 ^ 8
 key_small key fits = let small : cast_unsigned w64 key < 2 ^ 64 = Fits-lt-pow (Fits-of_z fits) in small
 
 pub first_stands : (image : Image) (at to : ℕ) (s : Stored) (rows : List Stored) → Stand image at to (s ∷ rows) → FirstStands image at to s rows
@@ -319,6 +319,9 @@ piece_is bytes at to size is inside =
 pub none_not : {X : Type 0} (o : Option X) → o ≡ None → is_none o ≡ false → ⊥
 none_not o none not = let bad : true ≡ false = sym (ap (λ p. is_none p) none) ∙ not in cc
 
-pub marked_place : (key : ℤ) (rows : List Stored) (place : Place) (s : Stored) → place ≡ place_in key 64 rows → find key rows ≡ Some s → s.marked ≡ true → marked_in place.here ≡ true
-marked_place key rows place s is found marked =
-    ap marked_in (ap (λ (p : Place). p.here) is ∙ (place_is key 64 rows).1 ∙ ap (λ (o : Option Stored). option_map cell_of o) found) ∙ marked
+pub marked_place : (key : ℤ) (rows : List Stored) (place : Place) → place ≡ place_in key 64 rows → marked_in place.here ≡ can_drop key rows
+marked_place key rows place is = ap marked_in (ap (λ (p : Place). p.here) is ∙ (place_is key 64 rows).1) ∙ by (find key rows)
+  where
+    by : (o : Option Stored) → marked_in (option_map cell_of o) ≡ is_marked o
+    by None = refl
+    by (Some s) = refl

@@ -1,8 +1,9 @@
 -- A leaf whose rows are exchanged at one place.
-use Rattle.std.proofs.Common.{◌≡◌, ℕ, ◌+◌, ◌-◌, ◌<◌, ◌≤◌, ℤ, Bool, List, [], ◌∷◌, ◌++◌, drop, length, Option, Some, None, refl, sym, ◌∙◌, ap, subst, arith}
-use Rattle.std.specs.Prelude.{All, slice_index}
+use Rattle.std.proofs.Common.{◌≡◌, ℕ, ◌+◌, ◌-◌, ◌<◌, ◌≤◌, ℤ, Bool, true, false, List, [], ◌∷◌, ◌++◌, drop, length, Option, Some, None, refl, sym, ◌∙◌, ap, subst, arith}
+use Rattle.std.specs.Prelude.{All, nat_le, slice_index}
 use Rattle.std.specs.List.{flat_map}
 use Rattle.std.specs.Option.{option_map}
+use Rattle.std.proofs.lemmas.Bool.Decides.{nat_tests}
 use Rattle.std.proofs.lemmas.List.{append-nil, append_assoc, length-append}
 use Rattle.isp_disk.specs.Moments.{Image, image_of, put, slice}
 use Rattle.isp_format.specs.Header.{Header, header_bytes, header_of}
@@ -12,8 +13,9 @@ use Rattle.isp_format.proofs.Headers.{put_more, slice_byte}
 use Rattle.isp_format.proofs.Parts.{slice_parts}
 use Rattle.isp_format.proofs.Places.{inside}
 use Rattle.isp_format.proofs.Slices.{length-slice, put_above, put_below, put_inside, slice_agree, slice_put}
-use Rattle.isp_clustered.specs.Cells.{Stand, cell_of, end_of, place_in}
-use Rattle.isp_clustered.specs.Rows.{behind, below, bytes_in, exchanged, find, from, one_or_none, rewritten}
+use Rattle.isp_clustered.specs.Cells.{Stand, cell_of, count_of, end_of, place_in}
+use Rattle.isp_clustered.specs.Rows.{behind, below, bytes_in, can_rewrite, exchanged, find, from, one_or_none, rewritten, slot_holds, with_mark}
+use Rattle.isp_clustered.specs.Trees.{IsLeaf}
 use Rattle.isp_clustered.specs.declared.cells.Cell.{Cell}
 use Rattle.isp_clustered.specs.declared.cells.Place.{Place}
 use Rattle.isp_clustered.proofs.CellLaws.{first_stands, found_front, place_is, rows_length, stand_cut, stand_from, stand_join, stand_moved, stored_length}
@@ -104,6 +106,15 @@ spliced_leaf old new at end used piece h is head same fits table own next before
       each = all.each;
     }
 
+pub spliced_counted : (old new : List ℕ) (at end used : ℕ) (piece : List ℕ) (h : Header) → IsSpliced (image_of old) (image_of new) at end used piece h → header_of new ≡ h → SameHead (header_of old) h (at + length piece + (used - end)) → at + length piece + (used - end) ≤ 4096
+    → (table own next : ℕ) (before mid after rows : List Stored) → IsLeaf old table own next (before ++ (mid ++ after))
+    → at ≡ 64 + bytes_in before → end ≡ at + bytes_in mid → used ≡ end + bytes_in after → piece ≡ flat_map stored_bytes rows → All IsStored rows → h.count ≡ length (before ++ (rows ++ after))
+    → IsLeaf new table own next (before ++ (rows ++ after))
+spliced_counted old new at end used piece h is head same fits table own next before mid after rows leaf at_is end_is used_is piece_is each count = record {
+  page = spliced_leaf old new at end used piece h is head same fits table own next before mid after rows leaf.page at_is end_is used_is piece_is each;
+  count = ap (λ (h : Header). h.count) head ∙ count;
+}
+
 -- ---- a row is spelled field by field
 
 pub spelled_all : (old key mark slot size row rest : Image) (s : Stored) → key ≡ put old 0 (key_bytes s.key) → mark ≡ put key 8 (mark_byte s.marked ∷ []) → slot ≡ put mark 9 (bytes_of 2 (slot_of s)) → size ≡ put slot 11 (bytes_of 2 (length s.row)) → row ≡ put size 13 s.row → rest ≡ put row (13 + length s.row) s.rest
@@ -137,16 +148,23 @@ spelled_row old key mark slot size row rest s put_key put_mark put_slot put_size
 -- ---- the place of a key parts the rows of a leaf
 
 pub record IsParted (bytes : List ℕ) (table own next : ℕ) (rows : List Stored) (key : ℤ) (used : ℕ) (place : Place) : Type 0 where
-  pub leaf : IsLeafPage bytes table own next (below key rows ++ (one_or_none (find key rows) ++ behind key rows))
+  pub leaf : IsLeaf bytes table own next (below key rows ++ (one_or_none (find key rows) ++ behind key rows))
   pub at : place.at ≡ 64 + bytes_in (below key rows)
   pub end : end_of place.at place.here ≡ place.at + bytes_in (one_or_none (find key rows))
   pub rest : used ≡ end_of place.at place.here + bytes_in (behind key rows)
+  pub counted : (header_of bytes).count ≡ count_of place.here + (length (below key rows) + length (behind key rows))
+  pub few : length (below key rows) + length (behind key rows) < 65535
 
 bytes_append : (xs ys : List Stored) → bytes_in (xs ++ ys) ≡ bytes_in xs + bytes_in ys
 bytes_append [] ys = omega arith
 bytes_append (x ∷ xs) ys = let rest = bytes_append xs ys in omega (arith, rest)
 
-pub place_parts : (bytes : List ℕ) (table own next : ℕ) (rows : List Stored) (key : ℤ) (used : ℕ) (place : Place) → IsLeafPage bytes table own next rows → used ≡ 64 + length (flat_map stored_bytes rows) → place ≡ place_in key 64 rows → IsParted bytes table own next rows key used place
+-- each row takes a byte at least
+rows_few : (rows : List Stored) → length rows ≤ bytes_in rows
+rows_few [] = omega arith
+rows_few (s ∷ rows) = let rest = rows_few rows in omega (arith, rest)
+
+pub place_parts : (bytes : List ℕ) (table own next : ℕ) (rows : List Stored) (key : ℤ) (used : ℕ) (place : Place) → IsLeaf bytes table own next rows → used ≡ 64 + length (flat_map stored_bytes rows) → place ≡ place_in key 64 rows → IsParted bytes table own next rows key used place
 place_parts bytes table own next rows key used place leaf used_is is =
     let at : place.at ≡ 64 + bytes_in (below key rows) = ap (λ (p : Place). p.at) is ∙ (place_is key 64 rows).0 ∙ ap (λ (n : ℕ). 64 + n) (rows_length (below key rows)) in
     let here : place.here ≡ option_map cell_of (find key rows) = ap (λ (p : Place). p.here) is ∙ (place_is key 64 rows).1 in
@@ -154,14 +172,27 @@ place_parts bytes table own next rows key used place leaf used_is is =
     let whole = rows_length rows in
     let parts : bytes_in rows ≡ bytes_in (below key rows ++ (one_or_none (find key rows) ++ behind key rows)) = ap (λ (l : List Stored). bytes_in l) (parted key rows) in
     let sum = bytes_append (below key rows) (one_or_none (find key rows) ++ behind key rows) in
+    let long : length rows ≡ length (below key rows ++ (one_or_none (find key rows) ++ behind key rows)) = ap (λ (l : List Stored). length l) (parted key rows) in
+    let longs : length (below key rows ++ (one_or_none (find key rows) ++ behind key rows)) ≡ length (below key rows) + length (one_or_none (find key rows) ++ behind key rows) = length-append (below key rows) (one_or_none (find key rows) ++ behind key rows) in
+    let longer : length (one_or_none (find key rows) ++ behind key rows) ≡ length (one_or_none (find key rows)) + length (behind key rows) = length-append (one_or_none (find key rows)) (behind key rows) in
+    let one : length (one_or_none (find key rows)) ≡ count_of place.here = count_is (find key rows) ∙ ap count_of (sym here) in
+    let count = leaf.count in
+    let few = rows_few rows in
+    let within = leaf.page.within in
     let sums = bytes_append (one_or_none (find key rows)) (behind key rows) in
     record {
-      leaf = subst (λ (l : List Stored). IsLeafPage bytes table own next l) (parted key rows) leaf;
+      leaf = subst (λ (l : List Stored). IsLeaf bytes table own next l) (parted key rows) leaf;
       at = at;
       end = end;
       rest = omega (arith, used_is, whole, parts, sum, sums, at, end);
+      counted = omega (arith, count, long, longs, longer, one);
+      few = omega (arith, few, within, whole, long, longs, longer);
     }
   where
+    count_is : (o : Option Stored) → length (one_or_none o) ≡ count_of (option_map cell_of o)
+    count_is None = refl
+    count_is (Some s) = refl
+
     ends : (at : ℕ) (o : Option Stored) → end_of at (option_map cell_of o) ≡ at + bytes_in (one_or_none o)
     ends at None = omega arith
     ends at (Some s) = omega arith
@@ -179,17 +210,19 @@ one_each s is = search (arith, is)
 pub no_each : All IsStored []
 no_each = λ k d h. absurd (omega (arith, h))
 
-pub put_leaf : (bytes new : List ℕ) (table own next : ℕ) (rows : List Stored) (key : ℤ) (used : ℕ) (place : Place) (end : ℕ) (piece : List ℕ) (s : Stored) → IsParted bytes table own next rows key used place → end ≡ end_of place.at place.here → piece ≡ stored_bytes s → IsStored s
-    → ((table own next : ℕ) (before mid after rows : List Stored) → IsLeafPage bytes table own next (before ++ (mid ++ after)) → place.at ≡ 64 + bytes_in before → end ≡ place.at + bytes_in mid → used ≡ end + bytes_in after → piece ≡ flat_map stored_bytes rows → All IsStored rows → IsLeafPage new table own next (before ++ (rows ++ after)))
-    → IsLeafPage new table own next (exchanged key (Some s) rows)
-put_leaf bytes new table own next rows key used place end piece s parted end_is piece_is is splice =
-    splice table own next (below key rows) (one_or_none (find key rows)) (behind key rows) (s ∷ []) parted.leaf parted.at (end_is ∙ parted.end) (parted.rest ∙ ap (λ (n : ℕ). n + bytes_in (behind key rows)) (sym end_is)) (piece_is ∙ sym (append-nil (stored_bytes s))) (one_each s is)
+pub put_leaf : (bytes new : List ℕ) (table own next : ℕ) (rows : List Stored) (key : ℤ) (used : ℕ) (place : Place) (end : ℕ) (piece : List ℕ) (s : Stored) (count : ℕ) → IsParted bytes table own next rows key used place → count ≡ 1 + (length (below key rows) + length (behind key rows)) → end ≡ end_of place.at place.here → piece ≡ stored_bytes s → IsStored s
+    → ((table own next : ℕ) (before mid after rows : List Stored) → IsLeaf bytes table own next (before ++ (mid ++ after)) → place.at ≡ 64 + bytes_in before → end ≡ place.at + bytes_in mid → used ≡ end + bytes_in after → piece ≡ flat_map stored_bytes rows → All IsStored rows → count ≡ length (before ++ (rows ++ after)) → IsLeaf new table own next (before ++ (rows ++ after)))
+    → IsLeaf new table own next (exchanged key (Some s) rows)
+put_leaf bytes new table own next rows key used place end piece s count parted count_is end_is piece_is is splice =
+    let long : length (below key rows ++ (s ∷ behind key rows)) ≡ length (below key rows) + length (s ∷ behind key rows) = length-append (below key rows) (s ∷ behind key rows) in
+    splice table own next (below key rows) (one_or_none (find key rows)) (behind key rows) (s ∷ []) parted.leaf parted.at (end_is ∙ parted.end) (parted.rest ∙ ap (λ (n : ℕ). n + bytes_in (behind key rows)) (sym end_is)) (piece_is ∙ sym (append-nil (stored_bytes s))) (one_each s is) (omega (arith, count_is, long))
 
-pub dropped_leaf : (bytes new : List ℕ) (table own next : ℕ) (rows : List Stored) (key : ℤ) (used : ℕ) (place : Place) (end : ℕ) (piece : List ℕ) → IsParted bytes table own next rows key used place → end ≡ end_of place.at place.here → piece ≡ []
-    → ((table own next : ℕ) (before mid after rows : List Stored) → IsLeafPage bytes table own next (before ++ (mid ++ after)) → place.at ≡ 64 + bytes_in before → end ≡ place.at + bytes_in mid → used ≡ end + bytes_in after → piece ≡ flat_map stored_bytes rows → All IsStored rows → IsLeafPage new table own next (before ++ (rows ++ after)))
-    → IsLeafPage new table own next (exchanged key None rows)
-dropped_leaf bytes new table own next rows key used place end piece parted end_is piece_is splice =
-    splice table own next (below key rows) (one_or_none (find key rows)) (behind key rows) [] parted.leaf parted.at (end_is ∙ parted.end) (parted.rest ∙ ap (λ (n : ℕ). n + bytes_in (behind key rows)) (sym end_is)) piece_is no_each
+pub dropped_leaf : (bytes new : List ℕ) (table own next : ℕ) (rows : List Stored) (key : ℤ) (used : ℕ) (place : Place) (end : ℕ) (piece : List ℕ) (count : ℕ) → IsParted bytes table own next rows key used place → count ≡ length (below key rows) + length (behind key rows) → end ≡ end_of place.at place.here → piece ≡ []
+    → ((table own next : ℕ) (before mid after rows : List Stored) → IsLeaf bytes table own next (before ++ (mid ++ after)) → place.at ≡ 64 + bytes_in before → end ≡ place.at + bytes_in mid → used ≡ end + bytes_in after → piece ≡ flat_map stored_bytes rows → All IsStored rows → count ≡ length (before ++ (rows ++ after)) → IsLeaf new table own next (before ++ (rows ++ after)))
+    → IsLeaf new table own next (exchanged key None rows)
+dropped_leaf bytes new table own next rows key used place end piece count parted count_is end_is piece_is splice =
+    let long : length (below key rows ++ behind key rows) ≡ length (below key rows) + length (behind key rows) = length-append (below key rows) (behind key rows) in
+    splice table own next (below key rows) (one_or_none (find key rows)) (behind key rows) [] parted.leaf parted.at (end_is ∙ parted.end) (parted.rest ∙ ap (λ (n : ℕ). n + bytes_in (behind key rows)) (sym end_is)) piece_is no_each (omega (arith, count_is, long))
 
 -- ---- a row that is written into its slot
 
@@ -246,3 +279,43 @@ cell_there key rows place s is found = ap (λ (p : Place). p.here) is ∙ (place
 
 pub same_cell : (here : Option Cell) (cell other : Cell) → here ≡ Some cell → here ≡ Some other → cell ≡ other
 same_cell here cell other one two = some_cell cell other (sym one ∙ two)
+
+-- ---- what stands at a place, by its key
+
+here_is : (key : ℤ) (rows : List Stored) (place : Place) → place ≡ place_in key 64 rows → place.here ≡ option_map cell_of (find key rows)
+here_is key rows place is = ap (λ (p : Place). p.here) is ∙ (place_is key 64 rows).1
+
+pub found_there : (key : ℤ) (rows : List Stored) (place : Place) (cell : Cell) → place ≡ place_in key 64 rows → place.here ≡ Some cell → (s : Stored) × (find key rows ≡ Some s)
+found_there key rows place cell is here = by (find key rows) (sym here ∙ here_is key rows place is)
+  where
+    by : (o : Option Stored) → Some cell ≡ option_map cell_of o → (s : Stored) × (o ≡ Some s)
+    by None bad = absurd (let no : Some cell ≡ None = bad in cc)
+    by (Some s) same = (s, refl)
+
+pub absent : (key : ℤ) (rows : List Stored) (place : Place) → place ≡ place_in key 64 rows → place.here ≡ None → find key rows ≡ None
+absent key rows place is here = by (find key rows) (sym here ∙ here_is key rows place is)
+  where
+    by : (o : Option Stored) → None ≡ option_map cell_of o → o ≡ None
+    by None same = refl
+    by (Some s) bad = absurd (let no : None ≡ Some (cell_of s) = bad in cc)
+
+-- the slot holds so many bytes
+pub holds_there : (key : ℤ) (rows : List Stored) (place : Place) (cell : Cell) (size : ℕ) → place ≡ place_in key 64 rows → place.here ≡ Some cell → nat_le size cell.slot ≡ can_rewrite key size rows
+holds_there key rows place cell size is here = by (find key rows) (sym here ∙ here_is key rows place is)
+  where
+    by : (o : Option Stored) → Some cell ≡ option_map cell_of o → nat_le size cell.slot ≡ slot_holds size o
+    by None bad = absurd (let no : Some cell ≡ None = bad in cc)
+    by (Some s) same = ap (λ (x : Cell). nat_le size x.slot) (some_cell cell (cell_of s) same)
+
+pub le_true : (a b : ℕ) → a ≤ b → nat_le a b ≡ true
+le_true a b less = grind (arith, nat_tests)
+
+pub le_false : (a b : ℕ) → b < a → nat_le a b ≡ false
+le_false a b more = grind (arith, nat_tests)
+
+-- a row that is written over itself with the mark is the row with its mark
+pub marked_is : (image : Image) (at to : ℕ) (key : ℤ) (cell : Cell) (s : Stored) (row : List ℕ) → IsThere image at to key cell s → row ≡ slice image (at + 13) cell.length → rewritten row true s ≡ with_mark s
+marked_is image at to key cell s row t row_is =
+    let f = first_stands image at to s t.more t.stand in
+    let same : row ≡ s.row = row_is ∙ ap (λ (x : Cell). slice image (at + 13) x.length) t.cell_is ∙ f.row in
+    (λ i. rewritten (same i) true s) ∙ (λ i. record s { marked = true; rest = drop_front s.row s.rest i })

@@ -1,4 +1,13 @@
-pub mod CellLaws
-pub mod EditLaws
+mod CellLaws
+mod ChangeLaws
+pub mod DividingLaws
+mod DividingWorked
+mod EditLaws
+mod InnerLaws
+pub mod LevelLaws
+pub mod RangeLaws
 pub mod RowLaws
+pub mod StandLaws
 pub mod TreeLaws
+mod WayLaws
+mod WholeLaws

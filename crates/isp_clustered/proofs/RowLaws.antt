@@ -109,13 +109,13 @@ find_head k s rows = by (int_lt s.key k)
     by true = refl
     by false = refl
 
-find_passes : (k : ℤ) (s : Stored) (rows : List Stored) → int_lt s.key k ≡ true → find k (s ∷ rows) ≡ find k rows
+pub find_passes : (k : ℤ) (s : Stored) (rows : List Stored) → int_lt s.key k ≡ true → find k (s ∷ rows) ≡ find k rows
 find_passes k s rows less = find_head k s rows ∙ (λ i. if less i then find k rows else (if int_eq s.key k then Some s else None))
 
-find_stops : (k : ℤ) (s : Stored) (rows : List Stored) → int_lt s.key k ≡ false → find k (s ∷ rows) ≡ (if int_eq s.key k then Some s else None)
+pub find_stops : (k : ℤ) (s : Stored) (rows : List Stored) → int_lt s.key k ≡ false → find k (s ∷ rows) ≡ (if int_eq s.key k then Some s else None)
 find_stops k s rows more = find_head k s rows ∙ (λ i. if more i then find k rows else (if int_eq s.key k then Some s else None))
 
-find_none : (key : ℤ) (rows : List Stored) → IsBelowAll key rows → find key rows ≡ None
+pub find_none : (key : ℤ) (rows : List Stored) → IsBelowAll key rows → find key rows ≡ None
 find_none key [] all = refl
 find_none key (s ∷ rows) all =
     let above = all.0 in

@@ -48,3 +48,8 @@ end_of at (Some cell) = at + stored_head + cell.slot
 abbrev pub marked_in : Option Cell → Bool
 marked_in None = false
 marked_in (Some cell) = cell.marked
+
+-- how many rows stand at a place
+abbrev pub count_of : Option Cell → ℕ
+count_of None = 0
+count_of (Some cell) = 1

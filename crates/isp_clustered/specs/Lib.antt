@@ -1,3 +1,9 @@
+pub mod Calls
 pub mod Cells
+pub mod Dividing
+pub mod Inners
+pub mod Leaves
+pub mod Levels
+pub mod Puts
 pub mod Rows
 pub mod Trees

@@ -1,6 +1,6 @@
 -- The rows of a clustered tree as a list that rises by key, and what calls make of it. That rows are found by key is of
 -- clustered indexes (MySQL 8.0 manual).
-use Rattle.std.specs.Prelude.{◌≡◌, ℕ, ◌+◌, ℤ, Bool, true, false, int_lt, nat_le, List, [], ◌∷◌, ◌++◌, drop, length, Option, Some, None, if◌then◌else◌}
+use Rattle.std.specs.Prelude.{◌≡◌, ℕ, ◌+◌, ℤ, Bool, true, false, int_lt, nat_le, nat_lt, List, [], ◌∷◌, ◌++◌, drop, length, Option, Some, None, if◌then◌else◌}
 use Rattle.std.specs.Ordering.{int_eq}
 use Rattle.std.specs.Option.{option_map}
 use Rattle.isp_format.specs.Kinds.{content_place}
@@ -55,6 +55,37 @@ one_or_none (Some s) = s ∷ []
 -- the rows with this one, or with none, at a key
 abbrev pub exchanged : ℤ → Option Stored → List Stored → List Stored
 exchanged key row rows = below key rows ++ (one_or_none row ++ behind key rows)
+
+-- a row stands there; its slot holds so many bytes, or fewer; it is marked
+abbrev pub stands : Option Stored → Bool
+stands None = false
+stands (Some s) = true
+
+abbrev pub slot_holds : ℕ → Option Stored → Bool
+slot_holds size None = false
+slot_holds size (Some s) = nat_le size (slot_of s)
+
+abbrev pub slot_less : ℕ → Option Stored → Bool
+slot_less size None = true
+slot_less size (Some s) = nat_lt (slot_of s) size
+
+abbrev pub is_marked : Option Stored → Bool
+is_marked None = false
+is_marked (Some s) = s.marked
+
+-- the rows have the key; a row of so many bytes may be put at it, since the key isn't there or its slot is smaller; it may be
+-- written into its slot; the row may be dropped, since it is marked
+abbrev pub has_key : ℤ → List Stored → Bool
+has_key key rows = stands (find key rows)
+
+abbrev pub may_put : ℤ → ℕ → List Stored → Bool
+may_put key size rows = slot_less size (find key rows)
+
+abbrev pub can_rewrite : ℤ → ℕ → List Stored → Bool
+can_rewrite key size rows = slot_holds size (find key rows)
+
+abbrev pub can_drop : ℤ → List Stored → Bool
+can_drop key rows = is_marked (find key rows)
 
 -- a row as it is put: unmarked, in a slot of its own length
 abbrev pub new_row : ℤ → List ℕ → Stored

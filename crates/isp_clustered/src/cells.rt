@@ -7,7 +7,7 @@ ghost use Rattle.isp_format.specs.Header.{number_in};
 ghost use Rattle.isp_format.specs.Leaf.{Stored};
 ghost use Rattle.isp_clustered.specs.Cells.{IsPlaceWithin, IsWithin, Stand, cell_of, place_in};
 
-use isp_page::{Page, get_i64, get_u16};
+use isp_format::{Page, get_i64, get_u16};
 
 /// Where the rows of a leaf begin.
 pub(crate) const FIRST_PLACE: usize = 64;

@@ -1,14 +1,16 @@
 //! A leaf's bytes with one row exchanged, in memory.
-ghost use Rattle.std.specs.Prelude.{◌≡◌, ◌+◌, ◌-◌, ◌≤◌, ◌++◌, ◌<◌, ℕ, ℤ, List, All, Some, IfSome, is_none, nat_le, length, true, false};
+ghost use Rattle.std.specs.Prelude.{◌≡◌, ◌+◌, ◌-◌, ◌≤◌, ◌++◌, ◌<◌, ℕ, ℤ, List, All, Some, IfSome, is_none, nat_le, not, length, true, false};
 ghost use Rattle.std.specs.List.{flat_map};
 ghost use Rattle.isp_disk.specs.Moments.{image_of, slice};
-ghost use Rattle.isp_format.specs.Leaf.{IsLeafPage, IsStored, Stored, mark_byte, slot_of, stored_bytes};
-ghost use Rattle.isp_clustered.specs.Cells.{IsPlaceWithin, IsWithin, end_of, marked_in, place_in};
-ghost use Rattle.isp_clustered.specs.Rows.{bytes_in, exchanged, find, is_fitting, rewritten, with_put, with_row, without};
+ghost use Rattle.isp_format.specs.Header.{number_in};
+ghost use Rattle.isp_format.specs.Leaf.{IsStored, Stored, mark_byte, stored_bytes};
+ghost use Rattle.isp_clustered.specs.Cells.{IsPlaceWithin, IsWithin, count_of, end_of, marked_in, place_in};
+ghost use Rattle.isp_clustered.specs.Rows.{bytes_in, can_drop, can_rewrite, exchanged, find, has_key, is_fitting, marked_at, rewritten, with_put, with_row, without};
+ghost use Rattle.isp_clustered.specs.Trees.{IsLeaf};
 
 use crate::cells::{Cell, HEAD, Place, piece, place_of};
 use crate::reading::empty_page;
-use isp_page::{Head, Page, get_u16, head, put_bytes, put_u16, put_u64, set_head};
+use isp_format::{Head, Page, get_u16, head, put_bytes, put_u16, put_u64, set_head};
 
 // The page with a piece in the place of the bytes from `at` to `end`, and behind it what stood from there to `used`.
 fn spliced(old: &Page, at: usize, end: usize, used: usize, put: &[u8], count: u16) -> Page
@@ -17,10 +19,11 @@ fn spliced(old: &Page, at: usize, end: usize, used: usize, put: &[u8], count: u1
     requires to { used ≤ 4096 }
     requires fits { at + length put.now + (used - end) ≤ 4096 }
     ensures leaf { (table own next : ℕ) (before mid after rows : List Stored)
-        → IsLeafPage old.now.bytes table own next (before ++ (mid ++ after))
+        → IsLeaf old.now.bytes table own next (before ++ (mid ++ after))
         → at ≡ 64 + bytes_in before → end ≡ at + bytes_in mid → used ≡ end + bytes_in after
         → put.now ≡ flat_map stored_bytes rows → All IsStored rows
-        → IsLeafPage result.bytes table own next (before ++ (rows ++ after)) }
+        → count ≡ length (before ++ (rows ++ after))
+        → IsLeaf result.bytes table own next (before ++ (rows ++ after)) }
 {
     let mut new = *old;
     put_bytes(&mut new, at + put.len(), piece(old, end, used - end));
@@ -79,12 +82,27 @@ pub(crate) fn is_room(place: Place, used: usize, size: usize) -> bool
     place.at + HEAD + size + behind <= 4096
 }
 
-// How many rows the page counts once a row is put at a place. The number is never read.
-fn count_with(old: &Page, place: Place) -> u16 {
+// How many rows there are once a row stands at a place.
+fn count_with(old: &Page, place: Place) -> u16
+    ensures { (others : ℕ) → number_in 2 old.now.bytes 2 ≡ count_of place.here + others
+        → others < 65535 → result ≡ 1 + others }
+{
     let count = get_u16(old, 2);
     match place.here {
         Some(_) => count,
         None => count.saturating_add(1),
+    }
+}
+
+// The same once none stands there.
+fn count_without(old: &Page, place: Place) -> u16
+    ensures { (others : ℕ) → number_in 2 old.now.bytes 2 ≡ count_of place.here + others
+        → result ≡ others }
+{
+    let count = get_u16(old, 2);
+    match place.here {
+        Some(_) => count.saturating_sub(1),
+        None => count,
     }
 }
 
@@ -93,10 +111,12 @@ fn put_at(old: &Page, used: usize, key: i64, place: Place, row: &[u8]) -> Option
     requires within { IsPlaceWithin used place }
     requires inside { used ≤ 4096 }
     requires row { length row.now ≤ 1000 }
-    ensures page { (table own next : ℕ) (rows : List Stored) → IsLeafPage old.now.bytes table own next rows
+    ensures page { (table own next : ℕ) (rows : List Stored)
+        → IsLeaf old.now.bytes table own next rows
         → used ≡ 64 + length (flat_map stored_bytes rows) → place ≡ place_in key 64 rows
-        → IfSome result (λ new. IsLeafPage new.bytes table own next (with_put key row.now rows)) }
-    ensures some { nat_le (place.at + 13 + length row.now + (used - end_of place.at place.here)) 4096 ≡ true
+        → IfSome result (λ new. IsLeaf new.bytes table own next (with_put key row.now rows)) }
+    ensures some { nat_le (place.at + 13 + length row.now + (used - end_of place.at place.here))
+        4096 ≡ true
         → is_none result ≡ false }
 {
     if !is_room(place, used, row.len()) {
@@ -114,11 +134,14 @@ pub(crate) fn put_in(old: &Page, used: usize, key: i64, row: &[u8]) -> Option<Pa
     requires from { 64 ≤ used }
     requires inside { used ≤ 4096 }
     requires row { length row.now ≤ 1000 }
-    ensures page { (table own next : ℕ) (rows : List Stored) → IsLeafPage old.now.bytes table own next rows
+    ensures page { (table own next : ℕ) (rows : List Stored)
+        → IsLeaf old.now.bytes table own next rows
         → used ≡ 64 + length (flat_map stored_bytes rows)
-        → IfSome result (λ new. IsLeafPage new.bytes table own next (with_put key row.now rows)) }
-    ensures some { (table own next : ℕ) (rows : List Stored) → IsLeafPage old.now.bytes table own next rows
-        → used ≡ 64 + length (flat_map stored_bytes rows) → is_fitting key (length row.now) rows ≡ true
+        → IfSome result (λ new. IsLeaf new.bytes table own next (with_put key row.now rows)) }
+    ensures some { (table own next : ℕ) (rows : List Stored)
+        → IsLeaf old.now.bytes table own next rows
+        → used ≡ 64 + length (flat_map stored_bytes rows)
+        → is_fitting key (length row.now) rows ≡ true
         → is_none result ≡ false }
 {
     match place_of(old, used, key) {
@@ -131,12 +154,13 @@ pub(crate) fn put_in(old: &Page, used: usize, key: i64, row: &[u8]) -> Option<Pa
 fn drop_at(old: &Page, used: usize, place: Place) -> Page
     requires within { IsPlaceWithin used place }
     requires inside { used ≤ 4096 }
-    ensures { (table own next : ℕ) (key : ℤ) (rows : List Stored) → IsLeafPage old.now.bytes table own next rows
+    ensures { (table own next : ℕ) (key : ℤ) (rows : List Stored)
+        → IsLeaf old.now.bytes table own next rows
         → used ≡ 64 + length (flat_map stored_bytes rows) → place ≡ place_in key 64 rows
-        → IsLeafPage result.bytes table own next (without key rows) }
+        → IsLeaf result.bytes table own next (without key rows) }
 {
     let end = end(place.at, place.here);
-    let count = get_u16(old, 2).saturating_sub(1);
+    let count = count_without(old, place);
     spliced(old, place.at, end, used, piece(old, 0, 0), count)
 }
 
@@ -154,12 +178,14 @@ fn is_marked(place: Place) -> bool
 pub(crate) fn drop_in(old: &Page, used: usize, key: i64) -> Option<Page>
     requires from { 64 ≤ used }
     requires inside { used ≤ 4096 }
-    ensures page { (table own next : ℕ) (rows : List Stored) → IsLeafPage old.now.bytes table own next rows
+    ensures page { (table own next : ℕ) (rows : List Stored)
+        → IsLeaf old.now.bytes table own next rows
         → used ≡ 64 + length (flat_map stored_bytes rows)
-        → IfSome result (λ new. IsLeafPage new.bytes table own next (without key rows)) }
-    ensures some { (table own next : ℕ) (rows : List Stored) (s : Stored)
-        → IsLeafPage old.now.bytes table own next rows → used ≡ 64 + length (flat_map stored_bytes rows)
-        → find key rows ≡ Some s → s.marked ≡ true → is_none result ≡ false }
+        → IfSome result (λ new. IsLeaf new.bytes table own next (without key rows)) }
+    ensures some { (table own next : ℕ) (rows : List Stored)
+        → IsLeaf old.now.bytes table own next rows
+        → used ≡ 64 + length (flat_map stored_bytes rows)
+        → is_none result ≡ not (can_drop key rows) }
 {
     match place_of(old, used, key) {
         Some(place) => {
@@ -187,10 +213,12 @@ fn rewrite_at(
     requires from { 64 ≤ at }
     requires inside { used ≤ 4096 }
     requires row { length row.now ≤ cell.slot }
-    ensures { (table own next : ℕ) (rows : List Stored) (s : Stored) → IsLeafPage old.now.bytes table own next rows
+    ensures { (table own next : ℕ) (rows : List Stored) (s : Stored)
+        → IsLeaf old.now.bytes table own next rows
         → used ≡ 64 + length (flat_map stored_bytes rows)
         → record { at = at; here = Some cell } ≡ place_in key 64 rows → find key rows ≡ Some s
-        → IsLeafPage result.bytes table own next (exchanged key (Some (rewritten row.now marked s)) rows) }
+        → IsLeaf result.bytes table own next (exchanged key (Some (rewritten row.now marked s))
+        rows) }
 {
     let slot = usize::from(cell.slot);
     let rest = piece(old, at + HEAD + row.len(), slot - row.len());
@@ -210,12 +238,12 @@ fn rewrite_place(
 ) -> Option<Page>
     requires within { IsPlaceWithin used place }
     requires inside { used ≤ 4096 }
-    ensures page { (table own next : ℕ) (rows : List Stored) (s : Stored) → IsLeafPage old.now.bytes table own next rows
+    ensures page { (table own next : ℕ) (rows : List Stored)
+        → IsLeaf old.now.bytes table own next rows
         → used ≡ 64 + length (flat_map stored_bytes rows) → place ≡ place_in key 64 rows
-        → find key rows ≡ Some s
-        → IfSome result (λ new. IsLeafPage new.bytes table own next (with_row key row.now marked rows)) }
-    ensures some { (rows : List Stored) (s : Stored) → place ≡ place_in key 64 rows → find key rows ≡ Some s
-        → length row.now ≤ slot_of s → is_none result ≡ false }
+        → IfSome result (λ new. IsLeaf new.bytes table own next (with_row key row.now marked rows)) }
+    ensures some { (rows : List Stored) → place ≡ place_in key 64 rows
+        → is_none result ≡ not (can_rewrite key (length row.now) rows) }
 {
     match place.here {
         Some(cell) => {
@@ -239,15 +267,56 @@ pub(crate) fn rewrite_in(
 ) -> Option<Page>
     requires from { 64 ≤ used }
     requires inside { used ≤ 4096 }
-    ensures page { (table own next : ℕ) (rows : List Stored) (s : Stored) → IsLeafPage old.now.bytes table own next rows
-        → used ≡ 64 + length (flat_map stored_bytes rows) → find key rows ≡ Some s
-        → IfSome result (λ new. IsLeafPage new.bytes table own next (with_row key row.now marked rows)) }
-    ensures some { (table own next : ℕ) (rows : List Stored) (s : Stored) → IsLeafPage old.now.bytes table own next rows
-        → used ≡ 64 + length (flat_map stored_bytes rows) → find key rows ≡ Some s
-        → length row.now ≤ slot_of s → is_none result ≡ false }
+    ensures page { (table own next : ℕ) (rows : List Stored)
+        → IsLeaf old.now.bytes table own next rows
+        → used ≡ 64 + length (flat_map stored_bytes rows)
+        → IfSome result (λ new. IsLeaf new.bytes table own next (with_row key row.now marked rows)) }
+    ensures some { (table own next : ℕ) (rows : List Stored)
+        → IsLeaf old.now.bytes table own next rows
+        → used ≡ 64 + length (flat_map stored_bytes rows)
+        → is_none result ≡ not (can_rewrite key (length row.now) rows) }
 {
     match place_of(old, used, key) {
         Some(place) => rewrite_place(old, used, key, place, row, marked),
+        None => None,
+    }
+}
+
+// The page once the row that stands at a place is marked.
+fn mark_place(old: &Page, used: usize, key: i64, place: Place) -> Option<Page>
+    requires within { IsPlaceWithin used place }
+    requires inside { used ≤ 4096 }
+    ensures page { (table own next : ℕ) (rows : List Stored)
+        → IsLeaf old.now.bytes table own next rows
+        → used ≡ 64 + length (flat_map stored_bytes rows) → place ≡ place_in key 64 rows
+        → IfSome result (λ new. IsLeaf new.bytes table own next (marked_at key rows)) }
+    ensures some { (rows : List Stored) → place ≡ place_in key 64 rows
+        → is_none result ≡ not (has_key key rows) }
+{
+    match place.here {
+        Some(cell) => {
+            let row = piece(old, place.at + HEAD, usize::from(cell.length));
+            Some(rewrite_at(old, used, key, place.at, cell, row, true))
+        }
+        None => None,
+    }
+}
+
+/// The page of a leaf once the row of a key is marked, where it is one and has that key.
+pub(crate) fn mark_in(old: &Page, used: usize, key: i64) -> Option<Page>
+    requires from { 64 ≤ used }
+    requires inside { used ≤ 4096 }
+    ensures page { (table own next : ℕ) (rows : List Stored)
+        → IsLeaf old.now.bytes table own next rows
+        → used ≡ 64 + length (flat_map stored_bytes rows)
+        → IfSome result (λ new. IsLeaf new.bytes table own next (marked_at key rows)) }
+    ensures some { (table own next : ℕ) (rows : List Stored)
+        → IsLeaf old.now.bytes table own next rows
+        → used ≡ 64 + length (flat_map stored_bytes rows)
+        → is_none result ≡ not (has_key key rows) }
+{
+    match place_of(old, used, key) {
+        Some(place) => mark_place(old, used, key, place),
         None => None,
     }
 }

@@ -4,16 +4,21 @@
 //! - `kept`: what calls answer of a row.
 //! - `cells`: rows in the bytes of a leaf, and where they stand.
 //! - `edits`: a leaf with one row exchanged.
-//! - `reading`: the calls that only read.
+//! - `inner`: pages above the leaves, and the way down.
+//! - `leaves`: whole leaves, one after another.
+//! - `reading`: the calls that look for a key.
 //! - `writing`: the calls that change a tree.
 #![tactic(auto)]
 
 mod cells;
 mod edits;
+mod inner;
 mod kept;
+mod leaves;
 mod reading;
 mod writing;
 
-pub use kept::Kept;
+pub use kept::{Kept, KeptRow, KeptRows, Leaf};
+pub use leaves::next_leaf;
 pub use reading::{fits, get};
-pub use writing::{create, drop_marked, put, rewrite};
+pub use writing::{create, drop_marked, mark, put, rewrite};

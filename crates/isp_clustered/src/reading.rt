@@ -3,19 +3,24 @@ ghost use Rattle.std.specs.Prelude.{◌≡◌, ◌+◌, ◌<◌, ◌≤◌, ◌�
 ghost use Rattle.std.specs.List.{flat_map};
 ghost use Rattle.std.specs.Option.{option_map};
 ghost use Rattle.isp_disk.specs.Moments.{image_of};
+ghost use Rattle.isp_format.specs.Header.{header_of};
 ghost use Rattle.isp_format.specs.Leaf.{IsLeafPage, Stored, stored_bytes};
 ghost use Rattle.isp_format.specs.Ranges.{page_of};
-ghost use Rattle.isp_page.specs.Calls.{Continues, ContinuesOrLacks};
 ghost use Rattle.isp_page.specs.Steps.{IsNoDamage, IsNoDamageOrLacks};
+ghost use Rattle.isp_page.specs.declared.fault.StoreFault.TheVariants.{Damaged};
+ghost use Rattle.isp_clustered.specs.Calls.{HasTree, ReadsTree, ReadsTreeOrLacks};
 ghost use Rattle.isp_clustered.specs.Cells.{IsPlaceWithin, IsWithin, Stand, cell_of, kept_of, place_in};
+ghost use Rattle.isp_clustered.specs.Levels.{InnerNode, IsTreeOf, all_rows};
 ghost use Rattle.isp_clustered.specs.Rows.{find};
-ghost use Rattle.isp_clustered.specs.Trees.{IsTree, Tree, fits, rows_of};
+ghost use Rattle.isp_clustered.specs.Trees.{SaysTree, Tree, TreeLeaf, fits, rows_of};
 
 use crate::cells::{Cell, HEAD, Place, piece, place_of};
 use crate::edits::is_room;
+use crate::inner::leaf_for;
 use crate::kept::Kept;
 use isp_base::Bytes;
-use isp_page::{Fault, Page, PageNo, Pages, StoreFault, head};
+use isp_format::{Page, PageNo, head};
+use isp_page::{Fault, Pages, StoreFault};
 use std::alloc::{AllocError, Global};
 
 // The kind of a leaf.
@@ -28,8 +33,10 @@ pub(crate) fn empty_page() -> Page {
 // Where the rows of a leaf end, if the page's header says a leaf with that number.
 fn used_of(p: &Page, own: u32) -> Option<usize>
     ensures within { IfSome result (λ used. (64 ≤ used) × (used ≤ 4096)) }
-    ensures used { (table next : ℕ) (rows : List Stored) → IsLeafPage p.now.bytes table own next rows
+    ensures used { (table next : ℕ) (rows : List Stored)
+        → IsLeafPage p.now.bytes table own next rows
         → result ≡ Some (64 + length (flat_map stored_bytes rows)) }
+    ensures says { IfSome result (λ used. SaysTree own (header_of p.now.bytes)) }
 {
     let h = head(p);
     let is_leaf = h.kind == LEAF && h.level == 0 && h.own.0 == own;
@@ -37,6 +44,16 @@ fn used_of(p: &Page, own: u32) -> Option<usize>
         Some(h.used as usize)
     } else {
         None
+    }
+}
+
+/// That a page isn't what a page of a clustered tree has to be.
+pub(crate) fn broken(page: PageNo) -> StoreFault
+    ensures { result ≡ Damaged page.0 7 }
+{
+    StoreFault::Damaged {
+        page: page.0,
+        rule: 7,
     }
 }
 
@@ -48,29 +65,25 @@ pub(crate) fn read_leaf<P: Pages>(
 ) -> Result<usize, StoreFault>
     requires usable { P.usable pages.old ≡ true }
     requires page { root.0 < (P.shape pages.old).pages }
-    ensures kept { Continues P.Pages pages.old pages.new result }
-    ensures contents { P.tells → OnOk result (P.contents pages.new ≡ P.contents pages.old) }
-    ensures mini { OnOk result (P.mini pages.new ≡ P.mini pages.old) }
+    ensures reads { ReadsTree P.Pages root.0 pages.old pages.new result }
     ensures page { P.tells → OnOk result (into.new.bytes ≡ page_of (P.contents pages.old) root.0) }
     ensures within { IfOk result (λ used. (64 ≤ used) × (used ≤ 4096)) }
-    ensures stand { P.tells → (table : ℕ) (tree : Tree)
-        → IsTree (P.shape pages.old).pages (P.contents pages.old) table root.0 tree
-        → IfOk result (λ used. Stand (image_of into.new.bytes) 64 used (rows_of tree)) }
-    ensures sound { P.tells → (table : ℕ) (tree : Tree)
-        → IsTree (P.shape pages.old).pages (P.contents pages.old) table root.0 tree → IfErr result IsNoDamage }
+    ensures stand { (table next : ℕ) (rows : List Stored)
+        → IsLeafPage into.new.bytes table root.0 next rows
+        → IfOk result (λ used. used ≡ 64 + length (flat_map stored_bytes rows)) }
+    ensures sound { P.tells → (table next : ℕ) (rows : List Stored)
+        → IsLeafPage (page_of (P.contents pages.old) root.0) table root.0 next rows
+        → IfErr result IsNoDamage }
 {
     pages.read(root, into)?;
     match used_of(into, root.0) {
         Some(used) => Ok(used),
-        None => Err(StoreFault::Damaged {
-            page: root.0,
-            rule: 7,
-        }),
+        None => Err(broken(root)),
     }
 }
 
 // A row that stands on the page, copied.
-fn copy_cell(
+pub(crate) fn copy_cell(
     alloc: Global,
     p: &Page,
     at: usize,
@@ -95,7 +108,8 @@ fn kept_at(alloc: Global, p: &Page, used: usize, place: Place) -> Result<Option<
     requires within { IsPlaceWithin used place }
     requires inside { used ≤ 4096 }
     ensures { (key : ℤ) (rows : List Stored) → Stand (image_of p.now.bytes) 64 used rows
-        → place ≡ place_in key 64 rows → IfOk result (λ got. got ≡ option_map kept_of (find key rows)) }
+        → place ≡ place_in key 64 rows → IfOk result
+        (λ got. got ≡ option_map kept_of (find key rows)) }
 {
     match place.here {
         Some(cell) => {
@@ -106,11 +120,62 @@ fn kept_at(alloc: Global, p: &Page, used: usize, place: Place) -> Result<Option<
     }
 }
 
-/// The row of a key, with its mark and its slot, or None where the tree has none of that key.
+// The row of a key on a leaf.
+fn row_on<P: Pages>(
+    alloc: Global,
+    pages: &mut P,
+    leaf: PageNo,
+    key: i64,
+) -> Result<Option<Kept>, Fault>
+    requires usable { P.usable pages.old ≡ true }
+    requires page { leaf.0 < (P.shape pages.old).pages }
+    ensures reads { ReadsTreeOrLacks P.Pages leaf.0 pages.old pages.new result }
+    ensures row { P.tells → (table next : ℕ) (rows : List Stored)
+        → IsLeafPage (page_of (P.contents pages.old) leaf.0) table leaf.0 next rows
+        → IfOk result (λ got. got ≡ option_map kept_of (find key rows)) }
+    ensures sound { P.tells → (table next : ℕ) (rows : List Stored)
+        → IsLeafPage (page_of (P.contents pages.old) leaf.0) table leaf.0 next rows
+        → IfErr result IsNoDamageOrLacks }
+{
+    let mut page = empty_page();
+    let used = read_leaf(pages, leaf, &mut page)?;
+    match place_of(&page, used, key) {
+        Some(place) => {
+            let got = kept_at(alloc, &page, used, place)?;
+            Ok(got)
+        }
+        None => Err(Fault::Store(broken(leaf))),
+    }
+}
+
+// The row of a key in a tree of any height.
+fn find_row<P: Pages>(
+    alloc: Global,
+    pages: &mut P,
+    root: PageNo,
+    key: i64,
+) -> Result<Option<Kept>, Fault>
+    requires usable { P.usable pages.old ≡ true }
+    requires page { root.0 < (P.shape pages.old).pages }
+    ensures reads { ReadsTreeOrLacks P.Pages root.0 pages.old pages.new result }
+    ensures found { P.tells → (table : ℕ) (levels : List (List InnerNode)) (leaves : List TreeLeaf)
+        → IsTreeOf (P.shape pages.old).pages (P.contents pages.old) table root.0 levels leaves
+        → IfOk result (λ got. got ≡ option_map kept_of (find key (all_rows leaves))) }
+    ensures sound { P.tells → (table : ℕ) (levels : List (List InnerNode)) (leaves : List TreeLeaf)
+        → IsTreeOf (P.shape pages.old).pages (P.contents pages.old) table root.0 levels leaves
+        → IfErr result IsNoDamageOrLacks }
+{
+    let leaf = leaf_for(pages, root, key)?;
+    let got = row_on(alloc, pages, leaf, key)?;
+    Ok(got)
+}
+
+/// The row of a key, with its mark and its slot, or None where the tree has none of that key. It reads the root, and one page
+/// a level.
 ///
 /// # Errors
 ///
-/// Disk; want of memory; or Damaged, with the tree's page and rule 7, where that is no leaf of rows.
+/// Disk; want of memory; or Damaged, with the page that is read and rule 7, where that is no page of a tree.
 pub fn get<P: Pages>(
     alloc: Global,
     pages: &mut P,
@@ -119,28 +184,16 @@ pub fn get<P: Pages>(
 ) -> Result<Option<Kept>, Fault>
     requires usable { P.usable pages.old ≡ true }
     requires page { root.0 < (P.shape pages.old).pages }
-    ensures kept { ContinuesOrLacks P.Pages pages.old pages.new result }
-    ensures contents { P.tells → OnOk result (P.contents pages.new ≡ P.contents pages.old) }
-    ensures mini { OnOk result (P.mini pages.new ≡ P.mini pages.old) }
+    ensures reads { ReadsTreeOrLacks P.Pages root.0 pages.old pages.new result }
     ensures row { P.tells → (table : ℕ) (tree : Tree)
-        → IsTree (P.shape pages.old).pages (P.contents pages.old) table root.0 tree
+        → HasTree P.Pages pages.old table root.0 tree
         → IfOk result (λ got. got ≡ option_map kept_of (find key (rows_of tree))) }
     ensures sound { P.tells → (table : ℕ) (tree : Tree)
-        → IsTree (P.shape pages.old).pages (P.contents pages.old) table root.0 tree
+        → HasTree P.Pages pages.old table root.0 tree
         → IfErr result IsNoDamageOrLacks }
 {
-    let mut page = empty_page();
-    let used = read_leaf(pages, root, &mut page)?;
-    match place_of(&page, used, key) {
-        Some(place) => {
-            let got = kept_at(alloc, &page, used, place)?;
-            Ok(got)
-        }
-        None => Err(Fault::Store(StoreFault::Damaged {
-            page: root.0,
-            rule: 7,
-        })),
-    }
+    let got = find_row(alloc, pages, root, key)?;
+    Ok(got)
 }
 
 /// Whether a row of so many bytes has room on the leaf, in the place of the row of its key if there is one.
@@ -157,22 +210,17 @@ pub fn fits<P: Pages>(
     requires usable { P.usable pages.old ≡ true }
     requires page { root.0 < (P.shape pages.old).pages }
     requires size { size ≤ 1000 }
-    ensures kept { Continues P.Pages pages.old pages.new result }
-    ensures contents { P.tells → OnOk result (P.contents pages.new ≡ P.contents pages.old) }
-    ensures mini { OnOk result (P.mini pages.new ≡ P.mini pages.old) }
+    ensures reads { ReadsTree P.Pages root.0 pages.old pages.new result }
     ensures fits { P.tells → (table : ℕ) (tree : Tree)
-        → IsTree (P.shape pages.old).pages (P.contents pages.old) table root.0 tree
+        → HasTree P.Pages pages.old table root.0 tree
         → IfOk result (λ there. there ≡ fits key size tree) }
     ensures sound { P.tells → (table : ℕ) (tree : Tree)
-        → IsTree (P.shape pages.old).pages (P.contents pages.old) table root.0 tree → IfErr result IsNoDamage }
+        → HasTree P.Pages pages.old table root.0 tree → IfErr result IsNoDamage }
 {
     let mut page = empty_page();
     let used = read_leaf(pages, root, &mut page)?;
     match place_of(&page, used, key) {
         Some(place) => Ok(is_room(place, used, size)),
-        None => Err(StoreFault::Damaged {
-            page: root.0,
-            rule: 7,
-        }),
+        None => Err(broken(root)),
     }
 }

@@ -1,23 +1,48 @@
 //! The calls that change a tree.
-ghost use Rattle.std.specs.Prelude.{◌≡◌, ◌+◌, ◌^◌, ◌<◌, ◌≤◌, ◌||◌, [], ◌∷◌, ℕ, true, Some, length, IfErr, IfOk, OnOk};
+ghost use Rattle.std.specs.Prelude.{◌≡◌, ◌+◌, ◌^◌, ◌<◌, ◌≤◌, [], ◌∷◌, ℕ, true, false, is_none, length, IfErr, IfOk, IfSome, OnOk};
 ghost use Rattle.isp_format.specs.Header.{header_of};
-ghost use Rattle.isp_format.specs.Leaf.{Stored, slot_of};
 ghost use Rattle.isp_format.specs.Ranges.{page_of};
-ghost use Rattle.isp_page.specs.HeadValues.{header_in};
-ghost use Rattle.isp_page.specs.Calls.{Continues};
-ghost use Rattle.isp_page.specs.State.{HasRoom, most_changed};
+ghost use Rattle.isp_format.specs.HeadValues.{header_in};
 ghost use Rattle.isp_page.specs.Steps.{IsNoDamage};
-ghost use Rattle.isp_page.specs.Touched.{Grows, KeepsPages, is_page};
-ghost use Rattle.isp_space.specs.Spaces.{IsSpace, Space, free_pages, next_free, taken};
-ghost use Rattle.isp_clustered.specs.Rows.{find, with_row, without};
-ghost use Rattle.isp_clustered.specs.Trees.{IsBeside, IsPut, IsTree, Tree, fits, leaf_header, on_leaves, one_leaf, rows_of};
+ghost use Rattle.isp_space.specs.Spaces.{NamesSpace, Space, free_pages};
+ghost use Rattle.isp_clustered.specs.Calls.{ChangesTree, Creates, CreatesTree, Edits, HasSpace, HasTree, MayPut, NamesRoot, NamesRootOrSpace, Puts};
+ghost use Rattle.isp_space.specs.Changes.{ChangesPages, MayChange};
+ghost use Rattle.isp_clustered.specs.Puts.{IsApart, most_put};
+ghost use Rattle.isp_clustered.specs.Rows.{marked_at, with_row, without};
+ghost use Rattle.isp_clustered.specs.Trees.{Tree, fits, has, has_marked, holds, leaf_header};
 
-use crate::edits::{drop_in, put_in, rewrite_in};
-use crate::reading::{LEAF, empty_page, read_leaf};
-use isp_page::{Head, Page, PageNo, Pages, StoreFault, replace, set_head};
+use crate::edits::{drop_in, mark_in, put_in, rewrite_in};
+use crate::reading::{LEAF, broken, empty_page, read_leaf};
+use isp_format::{Head, Page, PageNo, set_head};
+use isp_page::{Pages, StoreFault, replace};
 use isp_space::{add_bytes, take_page};
 
-// Counts bytes that are put, and exchanges a page.
+// Exchanges the tree's page for the edited one, if there is one.
+fn exchange<P: Pages>(
+    pages: &mut P,
+    root: PageNo,
+    old: &Page,
+    edited: Option<Page>,
+) -> Result<(), StoreFault>
+    requires can { MayChange P.Pages 1 pages.old }
+    requires page { root.0 < (P.shape pages.old).pages }
+    ensures changes { ChangesPages P.Pages (root.0 ∷ []) (NamesRoot root.0) pages.old pages.new
+        result }
+    ensures page { P.tells → old.now.bytes ≡ page_of (P.contents pages.old) root.0
+        → OnOk result (IfSome edited (λ new. page_of (P.contents pages.new) root.0 ≡ new.bytes)) }
+    ensures only { OnOk result (is_none edited ≡ false) }
+    ensures sound { is_none edited ≡ false → IfErr result IsNoDamage }
+{
+    match edited {
+        Some(new) => {
+            replace(pages, root, old, &new)?;
+            Ok(())
+        }
+        None => Err(broken(root)),
+    }
+}
+
+// Counts bytes that are put, and exchanges the tree's page.
 fn count_and_replace<P: Pages>(
     pages: &mut P,
     root: PageNo,
@@ -25,20 +50,15 @@ fn count_and_replace<P: Pages>(
     new: &Page,
     bytes: u64,
 ) -> Result<(), StoreFault>
-    requires usable { P.usable pages.old ≡ true }
+    requires can { MayChange P.Pages 2 pages.old }
     requires page { root.0 < (P.shape pages.old).pages }
-    requires begun { (P.mini pages.old).is_begun ≡ true }
-    requires room { length (P.mini pages.old).changed + 2 ≤ most_changed }
-    ensures kept { Continues P.Pages pages.old pages.new result }
-    ensures others { P.tells → OnOk result (KeepsPages (λ q. is_page 0 q || is_page root.0 q)
-        (P.contents pages.old) (P.contents pages.new)) }
-    ensures grown { OnOk result (Grows (0 ∷ root.0 ∷ []) (P.mini pages.old) (P.mini pages.new)) }
+    ensures changes { ChangesPages P.Pages (0 ∷ root.0 ∷ []) NamesSpace pages.old pages.new result }
     ensures page { P.tells → 16 ≤ root.0 → old.now.bytes ≡ page_of (P.contents pages.old) root.0
         → OnOk result (page_of (P.contents pages.new) root.0 ≡ new.now.bytes) }
-    ensures space { P.tells → (s : Space) → IsSpace (P.shape pages.old).pages (P.contents pages.old) s
-        → IsBeside root.0 s → OnOk result (IsSpace (P.shape pages.new).pages (P.contents pages.new)
+    ensures space { P.tells → (s : Space) → HasSpace P.Pages pages.old s
+        → IsApart root.0 s → OnOk result (HasSpace P.Pages pages.new
         (record s { bytes = s.bytes + bytes })) }
-    ensures sound { P.tells → (s : Space) → IsSpace (P.shape pages.old).pages (P.contents pages.old) s
+    ensures sound { P.tells → (s : Space) → HasSpace P.Pages pages.old s
         → s.bytes + bytes < 2 ^ 63 → IfErr result IsNoDamage }
 {
     add_bytes(pages, bytes)?;
@@ -46,34 +66,25 @@ fn count_and_replace<P: Pages>(
     Ok(())
 }
 
-/// Puts a row, unmarked and in a slot of its length, in the place of the row of its key if there is one. For now the leaf
-/// has to have room for it.
+/// Puts a row, unmarked and in a slot of its length. Its key isn't there, or has a smaller slot, whose row goes. For now the
+/// leaf has to have room for it.
 ///
 /// # Errors
 ///
 /// Disk; Damaged, with the tree's page and rule 7, where that is no leaf of rows or has no room, or with page 0 and rule 4,
 /// where that says no space.
 pub fn put<P: Pages>(pages: &mut P, root: PageNo, key: i64, row: &[u8]) -> Result<(), StoreFault>
-    requires usable { P.usable pages.old ≡ true }
+    requires can { MayChange P.Pages most_put pages.old }
     requires page { root.0 < (P.shape pages.old).pages }
-    requires begun { (P.mini pages.old).is_begun ≡ true }
-    requires room { length (P.mini pages.old).changed + 2 ≤ most_changed }
     requires row { length row.now ≤ 1000 }
-    ensures kept { Continues P.Pages pages.old pages.new result }
-    ensures others { P.tells → OnOk result (KeepsPages (λ q. is_page 0 q || is_page root.0 q)
-        (P.contents pages.old) (P.contents pages.new)) }
-    ensures grown { OnOk result (Grows (0 ∷ root.0 ∷ []) (P.mini pages.old) (P.mini pages.new)) }
-    ensures put { P.tells → (table : ℕ) (tree : Tree)
-        → IsTree (P.shape pages.old).pages (P.contents pages.old) table root.0 tree
-        → OnOk result (IsPut (P.shape pages.new).pages (P.contents pages.new) table root.0 key row.now tree) }
-    ensures space { P.tells → (s : Space) → IsSpace (P.shape pages.old).pages (P.contents pages.old) s
-        → IsBeside root.0 s → OnOk result (IsSpace (P.shape pages.new).pages (P.contents pages.new)
-        (record s { bytes = s.bytes + (13 + length row.now) })) }
+    ensures changes { ChangesTree P.Pages root.0 (NamesRootOrSpace root.0) most_put
+        pages.old pages.new result }
+    ensures put { P.tells → (table : ℕ) (tree : Tree) (s : Space)
+        → MayPut P.Pages pages.old table root.0 key (length row.now) tree s
+        → OnOk result (Puts P.Pages pages.old pages.new table root.0 key row.now tree s) }
     ensures sound { P.tells → (table : ℕ) (tree : Tree) (s : Space)
-        → IsTree (P.shape pages.old).pages (P.contents pages.old) table root.0 tree
-        → fits key (length row.now) tree ≡ true
-        → IsSpace (P.shape pages.old).pages (P.contents pages.old) s → s.bytes + (13 + length row.now) < 2 ^ 63
-        → IfErr result IsNoDamage }
+        → MayPut P.Pages pages.old table root.0 key (length row.now) tree s
+        → fits key (length row.now) tree ≡ true → IfErr result IsNoDamage }
 {
     let mut page = empty_page();
     let used = read_leaf(pages, root, &mut page)?;
@@ -82,11 +93,68 @@ pub fn put<P: Pages>(pages: &mut P, root: PageNo, key: i64, row: &[u8]) -> Resul
             count_and_replace(pages, root, &page, &new, (13 + row.len()) as u64)?;
             Ok(())
         }
-        None => Err(StoreFault::Damaged {
-            page: root.0,
-            rule: 7,
-        }),
+        None => Err(broken(root)),
     }
+}
+
+/// Writes a row into the slot of its key, which keeps its size, with this mark. The key is there and its slot holds the row.
+///
+/// # Errors
+///
+/// Disk; or Damaged, with the tree's page and rule 7, where that is no leaf of rows, has no row of that key, or has it in a
+/// smaller slot.
+pub fn rewrite<P: Pages>(
+    pages: &mut P,
+    root: PageNo,
+    key: i64,
+    row: &[u8],
+    marked: bool,
+) -> Result<(), StoreFault>
+    requires can { MayChange P.Pages 1 pages.old }
+    requires page { root.0 < (P.shape pages.old).pages }
+    ensures changes { ChangesTree P.Pages root.0 (NamesRoot root.0) 1 pages.old pages.new result }
+    ensures written { P.tells → (table : ℕ) (tree : Tree)
+        → HasTree P.Pages pages.old table root.0 tree
+        → OnOk result (Edits P.Pages pages.old pages.new table root.0 tree
+        (with_row key row.now marked)) }
+    ensures only { P.tells → (table : ℕ) (tree : Tree)
+        → HasTree P.Pages pages.old table root.0 tree
+        → OnOk result (holds key (length row.now) tree ≡ true) }
+    ensures sound { P.tells → (table : ℕ) (tree : Tree)
+        → HasTree P.Pages pages.old table root.0 tree
+        → holds key (length row.now) tree ≡ true → IfErr result IsNoDamage }
+{
+    let mut page = empty_page();
+    let used = read_leaf(pages, root, &mut page)?;
+    let edited = rewrite_in(&page, used, key, row, marked);
+    exchange(pages, root, &page, edited)?;
+    Ok(())
+}
+
+/// Marks the row of a key, which is there. Its bytes and its slot stay.
+///
+/// # Errors
+///
+/// Disk; or Damaged, with the tree's page and rule 7, where that is no leaf of rows or has no row of that key.
+pub fn mark<P: Pages>(pages: &mut P, root: PageNo, key: i64) -> Result<(), StoreFault>
+    requires can { MayChange P.Pages 1 pages.old }
+    requires page { root.0 < (P.shape pages.old).pages }
+    ensures changes { ChangesTree P.Pages root.0 (NamesRoot root.0) 1 pages.old pages.new result }
+    ensures marked { P.tells → (table : ℕ) (tree : Tree)
+        → HasTree P.Pages pages.old table root.0 tree
+        → OnOk result (Edits P.Pages pages.old pages.new table root.0 tree (marked_at key)) }
+    ensures only { P.tells → (table : ℕ) (tree : Tree)
+        → HasTree P.Pages pages.old table root.0 tree
+        → OnOk result (has key tree ≡ true) }
+    ensures sound { P.tells → (table : ℕ) (tree : Tree)
+        → HasTree P.Pages pages.old table root.0 tree
+        → has key tree ≡ true → IfErr result IsNoDamage }
+{
+    let mut page = empty_page();
+    let used = read_leaf(pages, root, &mut page)?;
+    let edited = mark_in(&page, used, key);
+    exchange(pages, root, &page, edited)?;
+    Ok(())
 }
 
 /// Takes the row of a key out, which is there and marked.
@@ -95,33 +163,24 @@ pub fn put<P: Pages>(pages: &mut P, root: PageNo, key: i64, row: &[u8]) -> Resul
 ///
 /// Disk; or Damaged, with the tree's page and rule 7, where that is no leaf of rows or has no marked row of that key.
 pub fn drop_marked<P: Pages>(pages: &mut P, root: PageNo, key: i64) -> Result<(), StoreFault>
-    requires usable { P.usable pages.old ≡ true }
+    requires can { MayChange P.Pages 1 pages.old }
     requires page { root.0 < (P.shape pages.old).pages }
-    requires begun { (P.mini pages.old).is_begun ≡ true }
-    requires room { HasRoom root.0 (P.mini pages.old) }
-    ensures kept { Continues P.Pages pages.old pages.new result }
-    ensures others { P.tells → OnOk result (KeepsPages (is_page root.0) (P.contents pages.old) (P.contents pages.new)) }
-    ensures grown { OnOk result (Grows (root.0 ∷ []) (P.mini pages.old) (P.mini pages.new)) }
+    ensures changes { ChangesTree P.Pages root.0 (NamesRoot root.0) 1 pages.old pages.new result }
     ensures dropped { P.tells → (table : ℕ) (tree : Tree)
-        → IsTree (P.shape pages.old).pages (P.contents pages.old) table root.0 tree
-        → OnOk result (IsTree (P.shape pages.new).pages (P.contents pages.new) table root.0
-        (on_leaves (without key) tree)) }
-    ensures sound { P.tells → (table : ℕ) (tree : Tree) (s : Stored)
-        → IsTree (P.shape pages.old).pages (P.contents pages.old) table root.0 tree
-        → find key (rows_of tree) ≡ Some s → s.marked ≡ true → IfErr result IsNoDamage }
+        → HasTree P.Pages pages.old table root.0 tree
+        → OnOk result (Edits P.Pages pages.old pages.new table root.0 tree (without key)) }
+    ensures only { P.tells → (table : ℕ) (tree : Tree)
+        → HasTree P.Pages pages.old table root.0 tree
+        → OnOk result (has_marked key tree ≡ true) }
+    ensures sound { P.tells → (table : ℕ) (tree : Tree)
+        → HasTree P.Pages pages.old table root.0 tree
+        → has_marked key tree ≡ true → IfErr result IsNoDamage }
 {
     let mut page = empty_page();
     let used = read_leaf(pages, root, &mut page)?;
-    match drop_in(&page, used, key) {
-        Some(new) => {
-            replace(pages, root, &page, &new)?;
-            Ok(())
-        }
-        None => Err(StoreFault::Damaged {
-            page: root.0,
-            rule: 7,
-        }),
-    }
+    let edited = drop_in(&page, used, key);
+    exchange(pages, root, &page, edited)?;
+    Ok(())
 }
 
 // The header of a leaf without rows.
@@ -144,16 +203,12 @@ fn leaf_head(p: PageNo, table: u32) -> Head
 
 // Writes the header of a leaf without rows.
 fn make_leaf<P: Pages>(pages: &mut P, p: PageNo, table: u32) -> Result<(), StoreFault>
-    requires usable { P.usable pages.old ≡ true }
+    requires can { MayChange P.Pages 1 pages.old }
     requires page { p.0 < (P.shape pages.old).pages }
-    requires begun { (P.mini pages.old).is_begun ≡ true }
-    requires room { HasRoom p.0 (P.mini pages.old) }
     requires table { table ≤ 64 }
-    ensures kept { Continues P.Pages pages.old pages.new result }
-    ensures sound { IfErr result IsNoDamage }
-    ensures others { P.tells → OnOk result (KeepsPages (is_page p.0) (P.contents pages.old) (P.contents pages.new)) }
-    ensures grown { OnOk result (Grows (p.0 ∷ []) (P.mini pages.old) (P.mini pages.new)) }
-    ensures header { P.tells → OnOk result (header_of (page_of (P.contents pages.new) p.0) ≡ leaf_header table p.0) }
+    ensures changes { ChangesPages P.Pages (p.0 ∷ []) IsNoDamage pages.old pages.new result }
+    ensures header { P.tells → OnOk result (header_of (page_of (P.contents pages.new) p.0) ≡
+        leaf_header table p.0) }
 {
     let mut page = empty_page();
     pages.read(p, &mut page)?;
@@ -169,70 +224,16 @@ fn make_leaf<P: Pages>(pages: &mut P, p: PageNo, table: u32) -> Result<(), Store
 ///
 /// As of `take_page` of isp_space.
 pub fn create<P: Pages>(pages: &mut P, table: u32) -> Result<PageNo, StoreFault>
-    requires usable { P.usable pages.old ≡ true }
-    requires begun { (P.mini pages.old).is_begun ≡ true }
-    requires room { length (P.mini pages.old).changed + 3 ≤ most_changed }
+    requires can { MayChange P.Pages 3 pages.old }
     requires table { table ≤ 64 }
-    ensures kept { Continues P.Pages pages.old pages.new result }
-    ensures others { P.tells → IfOk result (λ p. KeepsPages (λ q. is_page 0 q || is_page p.0 q)
-        (P.contents pages.old) (P.contents pages.new)) }
-    ensures grown { IfOk result (λ p. Grows (0 ∷ p.0 ∷ p.0 ∷ []) (P.mini pages.old) (P.mini pages.new)) }
-    ensures inside { IfOk result (λ p. p.0 < (P.shape pages.old).pages) }
-    ensures page { P.tells → (s : Space) → IsSpace (P.shape pages.old).pages (P.contents pages.old) s
-        → 0 < free_pages (P.shape pages.old).pages s → IfOk result (λ p. p.0 ≡ next_free s) }
-    ensures tree { P.tells → (s : Space) → IsSpace (P.shape pages.old).pages (P.contents pages.old) s
+    ensures creates { CreatesTree P.Pages pages.old pages.new result }
+    ensures made { P.tells → (s : Space) → HasSpace P.Pages pages.old s
         → 0 < free_pages (P.shape pages.old).pages s
-        → IfOk result (λ p. IsTree (P.shape pages.new).pages (P.contents pages.new) table p.0 (one_leaf p.0 [])) }
-    ensures space { P.tells → (s : Space) → IsSpace (P.shape pages.old).pages (P.contents pages.old) s
-        → 0 < free_pages (P.shape pages.old).pages s
-        → OnOk result (IsSpace (P.shape pages.new).pages (P.contents pages.new) (taken s)) }
-    ensures sound { P.tells → (s : Space) → IsSpace (P.shape pages.old).pages (P.contents pages.old) s
+        → IfOk result (λ p. Creates P.Pages pages.old pages.new table s p.0) }
+    ensures sound { P.tells → (s : Space) → HasSpace P.Pages pages.old s
         → 0 < free_pages (P.shape pages.old).pages s → IfErr result IsNoDamage }
 {
     let p = take_page(pages)?;
     make_leaf(pages, p, table)?;
     Ok(p)
-}
-
-/// Writes a row into the slot of its key, which keeps its size, with this mark. The key is there and its slot holds the row.
-///
-/// # Errors
-///
-/// Disk; or Damaged, with the tree's page and rule 7, where that is no leaf of rows, has no row of that key, or has it in a
-/// smaller slot.
-pub fn rewrite<P: Pages>(
-    pages: &mut P,
-    root: PageNo,
-    key: i64,
-    row: &[u8],
-    marked: bool,
-) -> Result<(), StoreFault>
-    requires usable { P.usable pages.old ≡ true }
-    requires page { root.0 < (P.shape pages.old).pages }
-    requires begun { (P.mini pages.old).is_begun ≡ true }
-    requires room { HasRoom root.0 (P.mini pages.old) }
-    ensures kept { Continues P.Pages pages.old pages.new result }
-    ensures others { P.tells → OnOk result (KeepsPages (is_page root.0) (P.contents pages.old) (P.contents pages.new)) }
-    ensures grown { OnOk result (Grows (root.0 ∷ []) (P.mini pages.old) (P.mini pages.new)) }
-    ensures written { P.tells → (table : ℕ) (tree : Tree) (s : Stored)
-        → IsTree (P.shape pages.old).pages (P.contents pages.old) table root.0 tree
-        → find key (rows_of tree) ≡ Some s
-        → OnOk result (IsTree (P.shape pages.new).pages (P.contents pages.new) table root.0
-        (on_leaves (with_row key row.now marked) tree)) }
-    ensures sound { P.tells → (table : ℕ) (tree : Tree) (s : Stored)
-        → IsTree (P.shape pages.old).pages (P.contents pages.old) table root.0 tree
-        → find key (rows_of tree) ≡ Some s → length row.now ≤ slot_of s → IfErr result IsNoDamage }
-{
-    let mut page = empty_page();
-    let used = read_leaf(pages, root, &mut page)?;
-    match rewrite_in(&page, used, key, row, marked) {
-        Some(new) => {
-            replace(pages, root, &page, &new)?;
-            Ok(())
-        }
-        None => Err(StoreFault::Damaged {
-            page: root.0,
-            rule: 7,
-        }),
-    }
 }

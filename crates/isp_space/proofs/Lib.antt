@@ -1,3 +1,4 @@
-pub mod FieldLaws
+pub mod ChangesLaws
+pub mod GivingLaws
 pub mod SpaceLaws
 pub mod TakingLaws

@@ -13,7 +13,7 @@ use Rattle.isp_page.specs.Touched.{KeepsPages, is_page}
 use Rattle.isp_space.specs.Spaces.{IsChain, IsSpace, Space, space_page}
 
 -- what stands on a list has what all of it have
-on_list : (P : ℕ → Type 0) (q : ℕ) (xs : List ℕ) → All P xs → list_any (nat_eq q) xs ≡ true → P q
+pub on_list : (P : ℕ → Type 0) (q : ℕ) (xs : List ℕ) → All P xs → list_any (nat_eq q) xs ≡ true → P q
 on_list P q [] all there = absurd (grind (arith, there))
 on_list P q (x ∷ xs) all there = by (nat_eq q x) refl there (on_list P q xs (λ k d h. all (suc k) d (omega (arith, h))))
   where
@@ -21,7 +21,7 @@ on_list P q (x ∷ xs) all there = by (nat_eq q x) refl there (on_list P q xs (�
     by true same is rest = let e : x ≡ q = grind (arith, nat_tests, same) in subst P e (all 0 x (omega arith))
     by false other is rest = rest is
 
-apart : (x : ℕ) (xs : List ℕ) → All (λ other. (x ≡ other) → ⊥) xs → AllByRecursion (λ y. nat_eq x y ≡ false) xs
+pub apart : (x : ℕ) (xs : List ℕ) → All (λ other. (x ≡ other) → ⊥) xs → AllByRecursion (λ y. nat_eq x y ≡ false) xs
 apart x [] all = tt
 apart x (y ∷ ys) all = (let differs = all 0 y (omega arith) in grind (arith, nat_tests, differs), apart x ys (λ k d h. all (suc k) d (omega (arith, h))))
 
@@ -29,7 +29,7 @@ distinct_none : IsDistinct nat_eq []
 unfolding IsDistinct
 distinct_none = tt
 
-distinct_by_tests : (xs : List ℕ) → AreDistinct xs → IsDistinct nat_eq xs
+pub distinct_by_tests : (xs : List ℕ) → AreDistinct xs → IsDistinct nat_eq xs
 distinct_by_tests [] once = distinct_none
 distinct_by_tests (x ∷ xs) once = IsDistinct-cons nat_eq x xs (apart x xs once.0) (distinct_by_tests xs once.1)
 

@@ -1,2 +1,3 @@
-pub mod Fields
+pub mod Changes
+pub mod Giving
 pub mod Spaces

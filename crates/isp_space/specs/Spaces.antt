@@ -1,11 +1,14 @@
 -- The space of a file's pages: which are free, and the counters of page 0. Free are the pages of the free chain, each of which
 -- links to the next, and those from fresh on, which were never used (space management of the MySQL 8.0 manual, far simpler).
-use Rattle.std.specs.Prelude.{◌≡◌, ℕ, ◌+◌, ◌-◌, ◌^◌, ◌<◌, ◌≤◌, Bool, ◌&&◌, nat_le, nat_lt, List, [], ◌∷◌, All, length}
+use Rattle.std.specs.Prelude.{◌≡◌, ℕ, ◌+◌, ◌-◌, ◌^◌, ◌<◌, ◌≤◌, Bool, ◌&&◌, nat_le, nat_lt, List, [], ◌∷◌, All, length, ⊤}
 use Rattle.isp_format.specs.Doublewrite.{AreDistinct}
 use Rattle.isp_format.specs.Empty.{first_fresh}
 use Rattle.isp_format.specs.Header.{Header, header_of}
+use Rattle.isp_format.specs.Kinds.{free_kind}
 use Rattle.isp_format.specs.Ranges.{Contents, page_of}
 use Rattle.isp_format.specs.Space.{IsSpacePage, SpacePage}
+use Rattle.isp_page.specs.declared.fault.StoreFault.{StoreFault}
+use Rattle.isp_page.specs.declared.fault.StoreFault.TheVariants.{Damaged, Disk, Print}
 
 pub record Space : Type 0 where
   -- the pages of the free chain, in its order
@@ -57,6 +60,10 @@ room_pages = 48
 abbrev pub most_counted : ℕ
 most_counted = 2 ^ 62
 
+-- one more than what a counter may be at all
+abbrev pub counter_limit : ℕ
+counter_limit = 2 ^ 63
+
 -- there is room for one more change of a row or of an entry
 abbrev pub has_room : ℕ → Space → Bool
 has_room pages s = nat_le room_pages (free_pages pages s) && (nat_lt s.entries most_counted && nat_lt s.bytes most_counted)
@@ -81,6 +88,12 @@ fresh_after (page ∷ rest) fresh = fresh
 abbrev pub taken : Space → Space
 taken s = record s { free = rest_of s.free; fresh = fresh_after s.free s.fresh }
 
+-- a damaged page that is named breaks the rule of page 0's first page never used, or that of the free chain
+abbrev pub NamesSpace : StoreFault → Type 0
+NamesSpace Disk = ⊤
+NamesSpace Print = ⊤
+NamesSpace (Damaged page rule) = (4 ≤ rule) × (rule ≤ 5)
+
 -- the second space has the same free pages, and page 0 says it by these numbers
 pub record IsRecounted (s t : Space) (numbers : SpacePage) : Type 0 where
   pub free : t.free ≡ s.free
@@ -89,7 +102,7 @@ pub record IsRecounted (s t : Space) (numbers : SpacePage) : Type 0 where
 
 -- the header of a page that was just taken
 abbrev pub fresh_header : ℕ → Header
-fresh_header page = record { kind = 0; level = 0; count = 0; owner = 0; next = 0; prev = 0; ssn = 0; own = page; used = 0 }
+fresh_header page = record { kind = free_kind; level = 0; count = 0; owner = 0; next = 0; prev = 0; ssn = 0; own = page; used = 0 }
 
 -- the numbers of page 0 once the first page of the free chain is taken, which linked to that page
 abbrev pub without_first : ℕ → SpacePage → SpacePage

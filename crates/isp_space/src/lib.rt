@@ -4,9 +4,10 @@
 //! of the next entry of an R-tree, and how many bytes were put into clustered trees. `specs/Spaces` reads them as one value.
 #![tactic(auto)]
 
-mod fields;
+mod giving;
 mod space;
 mod taking;
 
+pub use giving::give_chain;
 pub use space::{add_bytes, count_table, draw_number, free_count, has_room, table_count};
 pub use taking::take_page;

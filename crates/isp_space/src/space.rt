@@ -1,7 +1,8 @@
 //! The calls on the space of pages.
-ghost use Rattle.std.specs.Prelude.{◌≡◌, ◌+◌, ◌<◌, ◌≤◌, ◌&&◌, ◌||◌, [], min, nat_le, nat_lt, if◌then◌else◌, Some, None, ◌^◌, ◌∷◌, ℕ, true, length, IfErr, IfOk, OnOk};
+ghost use Rattle.std.specs.Prelude.{◌≡◌, ◌+◌, ◌<◌, ◌≤◌, ◌&&◌, ◌||◌, [], min, nat_le, nat_lt, if◌then◌else◌, Some, None, ◌∷◌, ℕ, true, length, IfErr, IfOk, OnOk};
 ghost use Rattle.isp_disk.specs.Moments.{image_of, put};
 ghost use Rattle.isp_format.specs.Definition.{most_tables};
+ghost use Rattle.isp_format.specs.Empty.{first_fresh};
 ghost use Rattle.isp_format.specs.Header.{header_bytes, header_of};
 ghost use Rattle.isp_format.specs.Ranges.{page_of};
 ghost use Rattle.isp_page.specs.Calls.{Continues};
@@ -9,36 +10,38 @@ ghost use Rattle.isp_format.specs.Space.{IsSpacePage, SpacePage};
 ghost use Rattle.isp_page.specs.State.{HasRoom};
 ghost use Rattle.isp_page.specs.Steps.{IsNoDamage};
 ghost use Rattle.isp_page.specs.Touched.{Grows, KeepsPages, is_page};
-ghost use Rattle.isp_space.specs.Fields.{page_in};
-ghost use Rattle.isp_space.specs.Spaces.{IsSpace, Space, IsRecounted, free_pages, has_room, most_counted, next_free, room_pages, space_page, taken};
+ghost use Rattle.isp_format.specs.SpaceValues.{page_in};
+ghost use Rattle.isp_space.specs.Spaces.{IsSpace, NamesSpace, Space, IsRecounted, counter_limit, free_pages, has_room, most_counted, next_free, room_pages, space_page, taken};
 
-use crate::fields::{Numbers, numbers_of, set_numbers};
-use isp_page::{Page, PageNo, Pages, StoreFault, replace};
+use isp_format::{
+    FIRST_FRESH, MOST_TABLES, Page, PageNo, SpaceNumbers, set_space_numbers, space_numbers,
+};
+use isp_page::{Pages, StoreFault, replace};
 
 // The page that says the space.
 const SPACE: PageNo = PageNo(0);
 
-// The first page that a file may give away.
-pub(crate) const FIRST: u32 = 16;
-
 // How many pages have to be free for one more change.
 const ROOM: u64 = 48;
-
-// How many tables a file has at most.
-const MOST_TABLES: u32 = 64;
 
 // The counters of page 0 stay below this while there is room.
 const MOST: u64 = 1 << 62;
 
+// They are below this at all times.
+const LIMIT: u128 = 1 << 63;
+
 // Whether that may be the first page never used of a file of so many pages.
 fn is_fresh(fresh: u32, pages: u32) -> bool
-    ensures { result ≡ (nat_le 16 fresh && nat_le fresh pages) }
+    ensures { result ≡ (nat_le first_fresh fresh && nat_le fresh pages) }
 {
-    FIRST <= fresh && fresh <= pages
+    FIRST_FRESH <= fresh && fresh <= pages
 }
 
 // The numbers of page 0, whose bytes come into `into`. The first page never used is from 16 on, and no page behind the last.
-pub(crate) fn read_numbers<P: Pages>(pages: &mut P, into: &mut Page) -> Result<Numbers, StoreFault>
+pub(crate) fn read_numbers<P: Pages>(
+    pages: &mut P,
+    into: &mut Page,
+) -> Result<SpaceNumbers, StoreFault>
     requires usable { P.usable pages.old ≡ true }
     ensures kept { Continues P.Pages pages.old pages.new result }
     ensures contents { P.tells → OnOk result (P.contents pages.new ≡ P.contents pages.old) }
@@ -46,14 +49,15 @@ pub(crate) fn read_numbers<P: Pages>(pages: &mut P, into: &mut Page) -> Result<N
     ensures page { P.tells → OnOk result (into.new.bytes ≡ page_of (P.contents pages.old) 0) }
     ensures found { P.tells → (s : Space) → IsSpace (P.shape pages.old).pages (P.contents pages.old) s
         → IfOk result (λ n. page_in n ≡ space_page s) }
-    ensures from { IfOk result (λ n. 16 ≤ n.fresh) }
+    ensures from { IfOk result (λ n. first_fresh ≤ n.fresh) }
     ensures to { IfOk result (λ n. n.fresh ≤ (P.shape pages.old).pages) }
     ensures sound { P.tells → (s : Space) → IsSpace (P.shape pages.old).pages (P.contents pages.old) s
         → IfErr result IsNoDamage }
+    ensures names { IfErr result NamesSpace }
 {
     let count = pages.pages();
     pages.read(SPACE, into)?;
-    let numbers = numbers_of(into);
+    let numbers = space_numbers(into);
     if is_fresh(numbers.fresh, count) {
         Ok(numbers)
     } else {
@@ -76,7 +80,7 @@ pub fn free_count<P: Pages>(pages: &mut P) -> Result<u32, StoreFault>
     ensures sound { P.tells → (s : Space) → IsSpace (P.shape pages.old).pages (P.contents pages.old) s
         → IfErr result IsNoDamage }
 {
-    let mut page = empty_page();
+    let mut page = Page::zeros();
     let numbers = read_numbers(pages, &mut page)?;
     let fresh = pages.pages() - numbers.fresh;
     Ok(capped(numbers.free_count, fresh))
@@ -98,14 +102,14 @@ pub fn has_room<P: Pages>(pages: &mut P) -> Result<bool, StoreFault>
     ensures sound { P.tells → (s : Space) → IsSpace (P.shape pages.old).pages (P.contents pages.old) s
         → IfErr result IsNoDamage }
 {
-    let mut page = empty_page();
+    let mut page = Page::zeros();
     let numbers = read_numbers(pages, &mut page)?;
     let fresh = pages.pages() - numbers.fresh;
     Ok(is_room(&numbers, fresh))
 }
 
 // Whether there is room, where so many pages were never used.
-fn is_room(numbers: &Numbers, fresh: u32) -> bool
+fn is_room(numbers: &SpaceNumbers, fresh: u32) -> bool
     ensures { result ≡ (nat_le room_pages (numbers.now.free_count + fresh)
         && (nat_lt numbers.now.entries most_counted && nat_lt numbers.now.bytes most_counted)) }
 {
@@ -127,15 +131,11 @@ fn are_small(entries: u64, bytes: u64) -> bool
     entries < MOST && bytes < MOST
 }
 
-pub(crate) fn empty_page() -> Page {
-    Page { bytes: [0; 4096] }
-}
-
 // Page 0 with these numbers in the place of those that stood in it.
 pub(crate) fn write_numbers<P: Pages>(
     pages: &mut P,
     old: &Page,
-    numbers: &Numbers,
+    numbers: &SpaceNumbers,
 ) -> Result<(), StoreFault>
     requires usable { P.usable pages.old ≡ true }
     requires begun { (P.mini pages.old).is_begun ≡ true }
@@ -150,12 +150,16 @@ pub(crate) fn write_numbers<P: Pages>(
 {
     let _count = pages.pages();
     let mut new = *old;
-    set_numbers(&mut new, numbers);
+    set_space_numbers(&mut new, numbers);
     replace(pages, SPACE, old, &new)
 }
 
 // The same where the numbers are those of a space that differs in its counters alone.
-fn write_counters<P: Pages>(pages: &mut P, old: &Page, numbers: &Numbers) -> Result<(), StoreFault>
+fn write_counters<P: Pages>(
+    pages: &mut P,
+    old: &Page,
+    numbers: &SpaceNumbers,
+) -> Result<(), StoreFault>
     requires usable { P.usable pages.old ≡ true }
     requires begun { (P.mini pages.old).is_begun ≡ true }
     requires room { HasRoom 0 (P.mini pages.old) }
@@ -186,26 +190,23 @@ pub fn add_bytes<P: Pages>(pages: &mut P, n: u64) -> Result<(), StoreFault>
     ensures added { P.tells → (s : Space) → IsSpace (P.shape pages.old).pages (P.contents pages.old) s
         → OnOk result (IsSpace (P.shape pages.new).pages (P.contents pages.new) (record s { bytes = s.bytes + n })) }
     ensures sound { P.tells → (s : Space) → IsSpace (P.shape pages.old).pages (P.contents pages.old) s
-        → s.bytes + n < 2 ^ 63 → IfErr result IsNoDamage }
+        → s.bytes + n < counter_limit → IfErr result IsNoDamage }
+    ensures names { IfErr result NamesSpace }
 {
-    let mut page = empty_page();
+    let mut page = Page::zeros();
     let numbers = read_numbers(pages, &mut page)?;
     match raised(numbers.bytes, n) {
-        Some(bytes) => write_counters(pages, &page, &Numbers { bytes, ..numbers }),
+        Some(bytes) => write_counters(pages, &page, &SpaceNumbers { bytes, ..numbers }),
         None => Err(StoreFault::Damaged { page: 0, rule: 4 }),
     }
 }
 
 // The sum, if it is below 2^63.
 fn raised(counter: u64, n: u64) -> Option<u64>
-    ensures { result ≡ (if nat_lt (counter + n) (2 ^ 63) then Some (counter + n) else None) }
+    ensures { result ≡ (if nat_lt (counter + n) counter_limit then Some (counter + n) else None) }
 {
     let sum = u128::from(counter) + u128::from(n);
-    if sum < 1 << 63 {
-        Some(sum as u64)
-    } else {
-        None
-    }
+    if sum < LIMIT { Some(sum as u64) } else { None }
 }
 
 /// The number of the next entry of an R-tree, which rises by one.
@@ -225,13 +226,13 @@ pub fn draw_number<P: Pages>(pages: &mut P) -> Result<u64, StoreFault>
     ensures number { P.tells → (s : Space) → IsSpace (P.shape pages.old).pages (P.contents pages.old) s
         → IfOk result (λ number. number ≡ s.entries) }
     ensures sound { P.tells → (s : Space) → IsSpace (P.shape pages.old).pages (P.contents pages.old) s
-        → s.entries + 1 < 2 ^ 63 → IfErr result IsNoDamage }
+        → s.entries + 1 < counter_limit → IfErr result IsNoDamage }
 {
-    let mut page = empty_page();
+    let mut page = Page::zeros();
     let numbers = read_numbers(pages, &mut page)?;
     match raised(numbers.entries, 1) {
         Some(entries) => {
-            write_counters(pages, &page, &Numbers { entries, ..numbers })?;
+            write_counters(pages, &page, &SpaceNumbers { entries, ..numbers })?;
             Ok(numbers.entries)
         }
         None => Err(StoreFault::Damaged { page: 0, rule: 4 }),
@@ -257,11 +258,11 @@ pub fn count_table<P: Pages>(pages: &mut P) -> Result<u32, StoreFault>
     ensures sound { P.tells → (s : Space) → IsSpace (P.shape pages.old).pages (P.contents pages.old) s
         → s.tables < most_tables → IfErr result IsNoDamage }
 {
-    let mut page = empty_page();
+    let mut page = Page::zeros();
     let numbers = read_numbers(pages, &mut page)?;
     if numbers.tables < MOST_TABLES {
         let tables = numbers.tables + 1;
-        write_counters(pages, &page, &Numbers { tables, ..numbers })?;
+        write_counters(pages, &page, &SpaceNumbers { tables, ..numbers })?;
         Ok(numbers.tables)
     } else {
         Err(StoreFault::Damaged { page: 0, rule: 4 })
@@ -283,7 +284,7 @@ pub fn table_count<P: Pages>(pages: &mut P) -> Result<u32, StoreFault>
     ensures sound { P.tells → (s : Space) → IsSpace (P.shape pages.old).pages (P.contents pages.old) s
         → IfErr result IsNoDamage }
 {
-    let mut page = empty_page();
+    let mut page = Page::zeros();
     let numbers = read_numbers(pages, &mut page)?;
     Ok(numbers.tables)
 }

@@ -1,18 +1,19 @@
 //! Taking a page that is free.
 ghost use Rattle.std.specs.Prelude.{◌≡◌, ◌+◌, ◌<◌, ◌≤◌, ◌&&◌, ◌||◌, [], ◌∷◌, true, nat_le, nat_lt, length, IfErr, IfOk, OnOk};
+ghost use Rattle.isp_format.specs.Empty.{first_fresh};
 ghost use Rattle.isp_format.specs.Header.{header_of};
 ghost use Rattle.isp_format.specs.Ranges.{page_of};
-ghost use Rattle.isp_page.specs.HeadValues.{header_in};
+ghost use Rattle.isp_format.specs.HeadValues.{header_in};
 ghost use Rattle.isp_page.specs.Calls.{Continues};
 ghost use Rattle.isp_page.specs.State.{HasRoom, most_changed};
 ghost use Rattle.isp_page.specs.Steps.{IsNoDamage};
 ghost use Rattle.isp_page.specs.Touched.{Grows, KeepsPages, is_page};
-ghost use Rattle.isp_space.specs.Fields.{page_in};
-ghost use Rattle.isp_space.specs.Spaces.{IsSpace, Space, fresh_header, free_pages, next_free, space_page, taken, without_first};
+ghost use Rattle.isp_format.specs.SpaceValues.{page_in};
+ghost use Rattle.isp_space.specs.Spaces.{IsSpace, NamesSpace, Space, fresh_header, free_pages, next_free, space_page, taken, without_first};
 
-use crate::fields::Numbers;
-use crate::space::{FIRST, empty_page, read_numbers, write_numbers};
-use isp_page::{Head, Page, PageNo, Pages, StoreFault, head, replace, set_head};
+use crate::space::{read_numbers, write_numbers};
+use isp_format::{FIRST_FRESH, FREE_KIND, Head, Page, PageNo, SpaceNumbers, head, set_head};
+use isp_page::{Pages, StoreFault, replace};
 
 /// Takes a page that is free: the first of the free chain, else the first never used. Its header says a free page with its
 /// own number and nothing else; the bytes behind it stay.
@@ -38,8 +39,9 @@ pub fn take_page<P: Pages>(pages: &mut P) -> Result<PageNo, StoreFault>
         → 0 < free_pages (P.shape pages.old).pages s → IfOk result (λ p. p.0 ≡ next_free s) }
     ensures sound { P.tells → (s : Space) → IsSpace (P.shape pages.old).pages (P.contents pages.old) s
         → 0 < free_pages (P.shape pages.old).pages s → IfErr result IsNoDamage }
+    ensures names { IfErr result NamesSpace }
 {
-    let mut page = empty_page();
+    let mut page = Page::zeros();
     let numbers = read_numbers(pages, &mut page)?;
     let (p, left) = next_page(pages, &numbers)?;
     write_numbers(pages, &page, &left)?;
@@ -48,21 +50,25 @@ pub fn take_page<P: Pages>(pages: &mut P) -> Result<PageNo, StoreFault>
 }
 
 // The page that is taken next, and the numbers of page 0 once it is.
-fn next_page<P: Pages>(pages: &mut P, numbers: &Numbers) -> Result<(PageNo, Numbers), StoreFault>
+fn next_page<P: Pages>(
+    pages: &mut P,
+    numbers: &SpaceNumbers,
+) -> Result<(PageNo, SpaceNumbers), StoreFault>
     requires usable { P.usable pages.old ≡ true }
-    requires from { 16 ≤ numbers.now.fresh }
+    requires from { first_fresh ≤ numbers.now.fresh }
     requires to { numbers.now.fresh ≤ (P.shape pages.old).pages }
     ensures kept { Continues P.Pages pages.old pages.new result }
     ensures contents { P.tells → OnOk result (P.contents pages.new ≡ P.contents pages.old) }
     ensures mini { OnOk result (P.mini pages.new ≡ P.mini pages.old) }
     ensures inside { IfOk result (λ next. next.0.0 < (P.shape pages.old).pages) }
-    ensures behind { IfOk result (λ next. 16 ≤ next.0.0) }
+    ensures behind { IfOk result (λ next. first_fresh ≤ next.0.0) }
     ensures page { P.tells → (s : Space) → IsSpace (P.shape pages.old).pages (P.contents pages.old) s
         → page_in numbers.now ≡ space_page s → IfOk result (λ next. next.0.0 ≡ next_free s) }
     ensures left { P.tells → (s : Space) → IsSpace (P.shape pages.old).pages (P.contents pages.old) s
         → page_in numbers.now ≡ space_page s → IfOk result (λ next. page_in next.1 ≡ space_page (taken s)) }
     ensures sound { P.tells → (s : Space) → IsSpace (P.shape pages.old).pages (P.contents pages.old) s
         → page_in numbers.now ≡ space_page s → 0 < free_pages (P.shape pages.old).pages s → IfErr result IsNoDamage }
+    ensures names { IfErr result NamesSpace }
 {
     if numbers.free_count == 0 {
         first_fresh(pages, numbers)
@@ -72,7 +78,10 @@ fn next_page<P: Pages>(pages: &mut P, numbers: &Numbers) -> Result<(PageNo, Numb
 }
 
 // The same where the free chain is empty.
-fn first_fresh<P: Pages>(pages: &mut P, numbers: &Numbers) -> Result<(PageNo, Numbers), StoreFault>
+fn first_fresh<P: Pages>(
+    pages: &mut P,
+    numbers: &SpaceNumbers,
+) -> Result<(PageNo, SpaceNumbers), StoreFault>
     requires usable { P.usable pages.old ≡ true }
     requires to { numbers.now.fresh ≤ (P.shape pages.old).pages }
     ensures kept { Continues P.Pages pages.old pages.new result }
@@ -80,17 +89,21 @@ fn first_fresh<P: Pages>(pages: &mut P, numbers: &Numbers) -> Result<(PageNo, Nu
     ensures next { IfOk result (λ next. (next.0.0 ≡ numbers.now.fresh) × (next.0.0 < (P.shape pages.old).pages)) }
     ensures left { IfOk result (λ next. page_in next.1 ≡ (let n = page_in numbers.now in record n { fresh = n.fresh + 1 })) }
     ensures refused { IfErr result (λ e. (P.shape pages.old).pages ≤ numbers.now.fresh) }
+    ensures names { IfErr result NamesSpace }
 {
     if numbers.fresh < pages.pages() {
         let fresh = numbers.fresh + 1;
-        Ok((PageNo(numbers.fresh), Numbers { fresh, ..*numbers }))
+        Ok((PageNo(numbers.fresh), SpaceNumbers { fresh, ..*numbers }))
     } else {
         Err(StoreFault::Damaged { page: 0, rule: 5 })
     }
 }
 
 // The same where the free chain has a page.
-fn first_free<P: Pages>(pages: &mut P, numbers: &Numbers) -> Result<(PageNo, Numbers), StoreFault>
+fn first_free<P: Pages>(
+    pages: &mut P,
+    numbers: &SpaceNumbers,
+) -> Result<(PageNo, SpaceNumbers), StoreFault>
     requires usable { P.usable pages.old ≡ true }
     requires to { numbers.now.fresh ≤ (P.shape pages.old).pages }
     requires some { 0 < numbers.now.free_count }
@@ -98,18 +111,19 @@ fn first_free<P: Pages>(pages: &mut P, numbers: &Numbers) -> Result<(PageNo, Num
     ensures contents { P.tells → OnOk result (P.contents pages.new ≡ P.contents pages.old) }
     ensures mini { OnOk result (P.mini pages.new ≡ P.mini pages.old) }
     ensures next { IfOk result (λ next. next.0.0 ≡ numbers.now.free_head) }
-    ensures inside { IfOk result (λ next. (16 ≤ next.0.0) × (next.0.0 < numbers.now.fresh)) }
+    ensures inside { IfOk result (λ next. (first_fresh ≤ next.0.0) × (next.0.0 < numbers.now.fresh)) }
     ensures left { P.tells → IfOk result (λ next. page_in next.1
         ≡ without_first (header_of (page_of (P.contents pages.old) numbers.now.free_head)).next (page_in numbers.now)) }
-    ensures sound { 16 ≤ numbers.now.free_head → numbers.now.free_head < numbers.now.fresh → IfErr result IsNoDamage }
+    ensures sound { first_fresh ≤ numbers.now.free_head → numbers.now.free_head < numbers.now.fresh → IfErr result IsNoDamage }
+    ensures names { IfErr result NamesSpace }
 {
     let first = numbers.free_head;
     if !is_inside(first, numbers.fresh) {
         return Err(StoreFault::Damaged { page: 0, rule: 5 });
     }
-    let mut page = empty_page();
+    let mut page = Page::zeros();
     pages.read(PageNo(first), &mut page)?;
-    let left = Numbers {
+    let left = SpaceNumbers {
         free_head: head(&page).next.0,
         free_count: numbers.free_count - 1,
         ..*numbers
@@ -119,9 +133,9 @@ fn first_free<P: Pages>(pages: &mut P, numbers: &Numbers) -> Result<(PageNo, Num
 
 // Whether the page may be one of the free chain.
 fn is_inside(page: u32, fresh: u32) -> bool
-    ensures { result ≡ (nat_le 16 page && nat_lt page fresh) }
+    ensures { result ≡ (nat_le first_fresh page && nat_lt page fresh) }
 {
-    FIRST <= page && page < fresh
+    FIRST_FRESH <= page && page < fresh
 }
 
 // Writes the header of a free page.
@@ -136,7 +150,7 @@ fn clear_head<P: Pages>(pages: &mut P, p: PageNo) -> Result<(), StoreFault>
     ensures grown { OnOk result (Grows (p.0 ∷ []) (P.mini pages.old) (P.mini pages.new)) }
     ensures header { P.tells → OnOk result (header_of (page_of (P.contents pages.new) p.0) ≡ fresh_header p.0) }
 {
-    let mut page = empty_page();
+    let mut page = Page::zeros();
     pages.read(p, &mut page)?;
     let mut new = page;
     set_head(&mut new, &free_head(p));
@@ -149,7 +163,7 @@ fn free_head(p: PageNo) -> Head
     ensures { header_in result ≡ fresh_header p.0 }
 {
     Head {
-        kind: 0,
+        kind: FREE_KIND,
         level: 0,
         count: 0,
         owner: 0,

@@ -17,4 +17,4 @@ returns-clause-page c table own next rows leaf used_is place_is =
     let few = c.requires.row in
     let is : IsStored (new_row c.args.key c.args.row.now) = record { key = c.ranges.key; slot = omega (arith, few) } in
     let piece_is : c.piece-put.result.now ≡ stored_bytes (new_row c.args.key c.args.row.now) = c.piece-put.ensures ∙ ap (slice (image_of c.spelled-whole.result.bytes) 0) long ∙ c.spelled-whole.ensures ∙ (λ i. stored_bytes (record { key = key i; marked = false; row = c.args.row.now; rest = none i })) in
-    put_leaf c.args.old.now.bytes c.spliced.result.bytes table own next rows c.args.key c.args.used c.args.place c.end-end.result c.piece-put.result.now (new_row c.args.key c.args.row.now) parted c.end-end.ensures piece_is is c.spliced.ensures.leaf
+    put_leaf c.args.old.now.bytes c.spliced.result.bytes table own next rows c.args.key c.args.used c.args.place c.end-end.result c.piece-put.result.now (new_row c.args.key c.args.row.now) c.count_with-count.result parted (c.count_with-count.ensures _ parted.counted parted.few) c.end-end.ensures piece_is is c.spliced.ensures.leaf

@@ -13,7 +13,7 @@ pub returns-in-Some-clause-some : goal.returns-in-Some-clause-some
 returns-in-Some-clause-some c table own next rows leaf used_is fitting =
     let old = c.args.old.now.bytes in
     let key = to_z-of_z w64 c.args.key c.ranges.key in
-    let stand : Stand (image_of old) 64 c.args.used rows = subst (λ (n : ℕ). Stand (image_of old) 64 n rows) (sym used_is) (leaf_stands old table own next rows leaf) in
+    let stand : Stand (image_of old) 64 c.args.used rows = subst (λ (n : ℕ). Stand (image_of old) 64 n rows) (sym used_is) (leaf_stands old table own next rows leaf.page) in
     let place = place_some _ _ c.place_of.result c.in-Some.is (c.place_of.ensures.place rows stand) ∙ ap (λ (k : ℤ). place_in k 64 rows) key in
     let parted = place_parts old table own next rows c.args.key c.args.used c.in-Some.place leaf used_is place in
     c.put_at.ensures.some (ap (λ (n : ℕ). nat_le n 4096) (put_fits old table own next rows c.args.key c.args.used (length c.args.row.now) c.in-Some.place parted) ∙ fitting)

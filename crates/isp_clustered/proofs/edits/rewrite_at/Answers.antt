@@ -18,7 +18,7 @@ returns c table own next rows s leaf used_is place_is found =
     let slot = c.from-slot.ensures in
     let fits = c.requires.row in
     let place : Place = record { at = c.args.at; here = Some c.args.cell } in
-    let stand : Stand (image_of old) 64 c.args.used rows = subst (λ (n : ℕ). Stand (image_of old) 64 n rows) (sym used_is) (leaf_stands old table own next rows leaf) in
+    let stand : Stand (image_of old) 64 c.args.used rows = subst (λ (n : ℕ). Stand (image_of old) 64 n rows) (sym used_is) (leaf_stands old table own next rows leaf.page) in
     let parted = place_parts old table own next rows c.args.key c.args.used place leaf used_is place_is in
     let is_there = there (image_of old) c.args.used c.args.key rows place c.args.cell s stand place_is refl found in
     let left : ℕ = c.from-slot.result - length row in
@@ -29,7 +29,7 @@ returns c table own next rows s leaf used_is place_is found =
     let key = to_z-of_z w64 c.args.key c.ranges.key in
     let piece_is : c.piece-put.result.now ≡ stored_bytes (rewritten row c.args.marked s) = c.piece-put.ensures ∙ ap (slice (image_of c.spelled-whole.result.bytes) 0) long ∙ c.spelled-whole.ensures ∙ (λ i. stored_bytes (record { key = key i; marked = c.args.marked; row = row; rest = c.piece-rest.result.now })) ∙ ap stored_bytes written.0 in
     let ends : c.args.at + 13 + c.from-slot.result ≡ c.args.at + 13 + c.args.cell.slot = omega (arith, slot) in
-    put_leaf old c.spliced.result.bytes table own next rows c.args.key c.args.used place _ c.piece-put.result.now (rewritten row c.args.marked s) parted ends piece_is written.1 c.spliced.ensures.leaf
+    put_leaf old c.spliced.result.bytes table own next rows c.args.key c.args.used place _ c.piece-put.result.now (rewritten row c.args.marked s) c.get_u16.result parted (c.get_u16.ensures ∙ parted.counted) ends piece_is written.1 c.spliced.ensures.leaf
 
 pub spelled-whole-requires : goal.spelled-whole-requires
 spelled-whole-requires c =

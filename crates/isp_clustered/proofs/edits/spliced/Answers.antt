@@ -2,7 +2,7 @@ use Rattle.std.proofs.Common.{◌≡◌, ℕ, ◌+◌, ◌-◌, List, length, �
 use Rattle.isp_disk.specs.Moments.{image_of}
 use Rattle.isp_format.specs.Header.{Header, header_of}
 use Rattle.isp_format.proofs.Slices.{length-slice}
-use Rattle.isp_clustered.proofs.EditLaws.{IsSpliced, SameHead, spliced_leaf}
+use Rattle.isp_clustered.proofs.EditLaws.{IsSpliced, SameHead, spliced_counted}
 use Rattle.isp_clustered.proofs.edits.spliced.Goals as goal
 
 pub put_bytes-requires : goal.put_bytes-requires
@@ -31,4 +31,4 @@ returns c =
       next = ap (λ (h : Header). h.next) c.head.ensures;
       ends = λ i. c.args.at + length c.args.put.now + (c.args.used - c.args.end);
     } in
-    record { leaf = spliced_leaf c.args.old.now.bytes c.set_head.new.p.bytes c.args.at c.args.end c.args.used c.args.put.now h spliced c.set_head.ensures.head same c.requires.fits }
+    record { leaf = spliced_counted c.args.old.now.bytes c.set_head.new.p.bytes c.args.at c.args.end c.args.used c.args.put.now h spliced c.set_head.ensures.head same c.requires.fits }

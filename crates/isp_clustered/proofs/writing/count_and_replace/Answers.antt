@@ -1,7 +1,7 @@
 use Rattle.std.proofs.Common.{ℕ, ◌+◌, sym, ap, subst}
 use Rattle.isp_page.specs.State.{FileShape}
 use Rattle.isp_space.specs.Spaces.{IsSpace, Space}
-use Rattle.isp_clustered.proofs.TreeLaws.{space_beside}
+use Rattle.isp_clustered.proofs.ChangeLaws.{space_beside}
 use Rattle.isp_clustered.proofs.writing.count_and_replace.Goals as goal
 
 pub returns-clause-space : goal.returns-clause-space

@@ -1,18 +1,29 @@
-use Rattle.std.proofs.Common.{◌∙◌, ap}
+use Rattle.std.proofs.Common.{rules, [], ◌∷◌, ◌∙◌, ap, arith}
 use Rattle.isp_page.specs.State.{FileShape}
-use Rattle.isp_clustered.proofs.TreeLaws.{made_space, made_tree}
+use Rattle.isp_clustered.proofs.ChangeLaws.{made}
+use Rattle.isp_space.proofs.ChangesLaws.{changes_on, changes_two}
 use Rattle.isp_clustered.proofs.writing.create.Goals as goal
 
-pub returns-clause-tree : goal.returns-clause-tree
-returns-clause-tree g c tells s is some =
+pub returns-clause-made : goal.returns-clause-made
+returns-clause-made g c tells s is some =
     let t = c.in_ok-p.ensures in
     let m = c.in_ok-make_leaf.ensures in
     let pages = λ (shape : FileShape). shape.pages in
-    made_tree _ _ (g.P.Pages.contents c.args.pages.now) (g.P.Pages.contents c.make_leaf.new.pages) c.args.table _ s is (t.page tells s is some) t.inside (ap pages m.kept.keeps.same_shape ∙ ap pages t.kept.keeps.same_shape) (m.header tells)
+    made _ _ (g.P.Pages.contents c.args.pages.now) (g.P.Pages.contents c.take_page.new.pages) (g.P.Pages.contents c.make_leaf.new.pages) c.args.table _ s is some (t.page tells s is some) t.inside (ap pages m.changes.kept.keeps.same_shape ∙ ap pages t.kept.keeps.same_shape)
+    (t.others tells) (m.changes.changes.others tells) (t.taken tells s is some).says (m.header tells)
 
-pub returns-clause-space : goal.returns-clause-space
-returns-clause-space g c tells s is some =
+pub returns-clause-creates : goal.returns-clause-creates
+returns-clause-creates g c =
     let t = c.in_ok-p.ensures in
     let m = c.in_ok-make_leaf.ensures in
-    let pages = λ (shape : FileShape). shape.pages in
-    made_space _ _ (g.P.Pages.contents c.args.pages.now) (g.P.Pages.contents c.take_page.new.pages) (g.P.Pages.contents c.make_leaf.new.pages) _ s is some (t.page tells s is some) (ap pages m.kept.keeps.same_shape ∙ ap pages t.kept.keeps.same_shape) (t.others tells) (m.others tells) (t.taken tells s is some).says
+    let p = c.in_ok-p.p.0 in
+    record {
+      kept = search rules;
+      changes = record {
+        list = 0 ∷ p ∷ p ∷ [];
+        few = omega arith;
+        changes = changes_on g.P.Pages (0 ∷ p ∷ []) (p ∷ []) _ _ _ (changes_two g.P.Pages p _ _ t.grown t.others) m.changes.changes;
+      };
+      names = tt;
+      inside = t.inside;
+    }

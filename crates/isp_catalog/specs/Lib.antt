@@ -1,0 +1,5 @@
+pub mod Catalogue
+pub mod Laws
+pub mod Limits
+pub mod Reading
+pub mod Writing

@@ -1,0 +1,219 @@
+//! A definition from the bytes of its page.
+ghost use Rattle.std.specs.Prelude.{◌≡◌, ◌+◌, ◌*◌, ◌<◌, ◌≤◌, ◌&&◌, ℕ, nat_le, slice_index, Err, IfOk};
+ghost use Rattle.isp_disk.specs.Moments.{image_of, slice};
+ghost use Rattle.isp_format.specs.Definition.{definition_page, definition_place};
+ghost use Rattle.isp_format.specs.Ranges.{Contents, page_of};
+ghost use Rattle.isp_catalog.specs.Catalogue.{IsDefined};
+ghost use Rattle.isp_catalog.specs.Limits.{is_size};
+ghost use Rattle.isp_catalog.specs.Reading.{Finds, all_columns_in, column_in, columns_in, flag_in, kind_in, name_in, root_in, table_in, varchar_in};
+ghost use Rattle.isp_catalog.specs.declared.table.TableDef.{TableDef};
+ghost use Rattle.isp_catalog.specs.declared.unread.Unread.TheVariants.{Broken};
+
+use crate::limits::are_within_limits;
+use crate::table::TableDef;
+use crate::unread::Unread;
+use isp_base::{Bytes, Name};
+use isp_format::{Page, PageNo, get_u16, get_u32};
+use isp_plain::{Column, Columns, Kind, Schema};
+use sqlite_items::Items;
+use std::alloc::Global;
+
+// How many bytes the field of a column has.
+pub(crate) const COLUMN_BYTES: usize = 37;
+
+// So many bytes of the page from `at` on.
+fn piece(p: &Page, at: usize, size: usize) -> &[u8]
+    requires inside { at + size ≤ 4096 }
+    ensures { result.now ≡ slice (image_of p.now.bytes) at size }
+{
+    &p.bytes[at..at + size]
+}
+
+// The byte at that place.
+fn byte_at(p: &Page, at: usize) -> u8
+    requires inside { at + 1 ≤ 4096 }
+    ensures byte { result ≡ slice_index p.now.bytes at }
+    ensures bytes { (place : ℕ) → slice_index p.now.bytes place < 256 }
+{
+    p.bytes[at]
+}
+
+// Whether a name may have so many bytes.
+fn is_length(length: u8) -> bool
+    ensures { result ≡ (nat_le 1 length && nat_le length 32) }
+{
+    1 <= length && length <= 32
+}
+
+// The name in the field at that place.
+fn name_at(alloc: Global, p: &Page, at: usize) -> Result<Name, Unread>
+    requires inside { at + 33 ≤ 4096 }
+    ensures { Finds result (name_in p.now.bytes at) }
+{
+    let length = p.bytes[at];
+    if !is_length(length) {
+        return Err(Unread::Broken);
+    }
+    let name = Bytes::from_slice(alloc, piece(p, at + 1, usize::from(length)))?;
+    Ok(name)
+}
+
+fn is_size(size: u16) -> bool
+    ensures { result ≡ is_size size }
+{
+    1 <= size && size <= 500
+}
+
+// The kind of VARCHAR columns of that size.
+fn varchar(size: u16) -> Option<Kind>
+    ensures { result ≡ varchar_in size }
+{
+    if is_size(size) {
+        Some(Kind::VarChar(size))
+    } else {
+        None
+    }
+}
+
+// The kind with that byte and that size.
+fn kind_of(byte: u8, size: u16) -> Option<Kind>
+    ensures { result ≡ kind_in byte size }
+{
+    match byte {
+        1 => Some(Kind::BigInt),
+        2 => varchar(size),
+        3 => Some(Kind::Geo),
+        _ => None,
+    }
+}
+
+fn flag_of(byte: u8) -> Option<bool>
+    ensures { result ≡ flag_in byte }
+{
+    match byte {
+        0 => Some(false),
+        1 => Some(true),
+        _ => None,
+    }
+}
+
+// The column in the field at that place.
+fn column_at(alloc: Global, p: &Page, at: usize) -> Result<Column, Unread>
+    requires inside { at + 37 ≤ 4096 }
+    ensures { Finds result (column_in p.now.bytes at) }
+{
+    let name = name_at(alloc, p, at)?;
+    let Some(kind) = kind_of(p.bytes[at + 33], get_u16(p, at + 34)) else {
+        return Err(Unread::Broken);
+    };
+    match flag_of(p.bytes[at + 36]) {
+        Some(indexed) => Ok(Column {
+            name,
+            kind,
+            indexed,
+        }),
+        None => Err(Unread::Broken),
+    }
+}
+
+// So many columns, in fields one after another.
+fn columns_at(alloc: Global, p: &Page, at: usize, count: usize) -> Result<Columns, Unread>
+    requires inside { at + 37 * count ≤ 4096 }
+    ensures { Finds result (columns_in p.now.bytes at count) }
+{
+    let mut columns = Items::new(alloc);
+    for k in 0..count {
+        let column = column_at(alloc, p, at + COLUMN_BYTES * k)?;
+        columns.push(column)?;
+    }
+    Ok(columns)
+}
+
+// The columns of a definition, within their limits.
+fn all_columns_at(alloc: Global, p: &Page, at: usize, count: u8) -> Result<Columns, Unread>
+    requires inside { at + 592 ≤ 4096 }
+    ensures { Finds result (all_columns_in p.now.bytes at count) }
+{
+    if count < 1 || count > 16 {
+        return Err(Unread::Broken);
+    }
+    let columns = columns_at(alloc, p, at, usize::from(count))?;
+    if are_within_limits(columns.as_slice()) {
+        Ok(columns)
+    } else {
+        Err(Unread::Broken)
+    }
+}
+
+// The root of a tree in a file of so many pages.
+fn root_of(root: u32, pages: u32) -> Option<u32>
+    ensures { result ≡ root_in pages root }
+{
+    if 16 <= root && root < pages {
+        Some(root)
+    } else {
+        None
+    }
+}
+
+// The definition of that number at that place of the page, which has so many columns.
+#[tactic(auto, unfolding(crate::specs::Reading::table_in))]
+fn parts_at(
+    alloc: Global,
+    p: &Page,
+    at: usize,
+    count: u8,
+    number: u32,
+    pages: u32,
+) -> Result<TableDef, Unread>
+    requires inside { at + 638 ≤ 4096 }
+    requires count { count ≡ slice_index p.now.bytes (at + 33) }
+    ensures table { Finds result (table_in pages number p.now.bytes at) }
+    ensures root { IfOk result (λ def. def.root.0 < pages) }
+{
+    let name = name_at(alloc, p, at)?;
+    let columns = all_columns_at(alloc, p, at + 46, count)?;
+    match root_of(get_u32(p, at + 34), pages) {
+        Some(root) => Ok(TableDef {
+            number,
+            name,
+            schema: Schema { columns },
+            root: PageNo(root),
+            trees: [PageNo(get_u32(p, at + 38)), PageNo(get_u32(p, at + 42))],
+        }),
+        None => Err(Unread::Broken),
+    }
+}
+
+/// The page of the definition of that number.
+pub(crate) fn page_of_number(number: u32) -> u32
+    requires from { 1 ≤ number }
+    ensures { result ≡ definition_page number }
+{
+    2 + (number - 1) / 5
+}
+
+/// Where the definition of that number stands on its page.
+pub(crate) fn place_of_number(number: u32) -> usize
+    requires from { 1 ≤ number }
+    ensures place { result ≡ definition_place number }
+    ensures inside { result + 800 ≤ 4096 }
+{
+    64 + (number - 1) as usize % 5 * 800
+}
+
+/// The definition of that number on its page, in a file of so many pages.
+pub(crate) fn table_at(alloc: Global, p: &Page, number: u32, pages: u32) -> Result<TableDef, Unread>
+    requires from { 1 ≤ number }
+    ensures root { IfOk result (λ def. def.root.0 < pages) }
+    ensures found { (contents : Contents) → p.now.bytes ≡ page_of contents (definition_page number)
+        → IfOk result (λ def. IsDefined pages contents number def) }
+    ensures refused { result ≡ Err Broken → (contents : Contents) (def : TableDef)
+        → p.now.bytes ≡ page_of contents (definition_page number)
+        → IsDefined pages contents number def → ⊥ }
+{
+    let at = place_of_number(number);
+    let count = byte_at(p, at + 33);
+    let def = parts_at(alloc, p, at, count, number, pages)?;
+    Ok(def)
+}

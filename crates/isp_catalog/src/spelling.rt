@@ -1,0 +1,122 @@
+//! A definition into the bytes of its page.
+ghost use Rattle.std.specs.Prelude.{◌≡◌, ◌+◌, ◌*◌, ◌≤◌, ◌∷◌, ◌++◌, [], ℕ, All, length};
+ghost use Rattle.std.specs.List.{flat_map};
+ghost use Rattle.isp_disk.specs.Moments.{image_of, put};
+ghost use Rattle.isp_format.specs.Definition.{flag_byte, most_columns};
+ghost use Rattle.isp_format.specs.Numbers.{bytes_of};
+ghost use Rattle.isp_catalog.specs.Limits.{IsName};
+ghost use Rattle.isp_catalog.specs.Writing.{HasRoots, column_field, kind_byte, kind_size, name_field, roots_field, table_bytes};
+
+use crate::reading::COLUMN_BYTES;
+use crate::table::TableDef;
+use isp_format::{Page, put_bytes, put_u16, put_u32};
+use isp_plain::{Column, Kind};
+
+// Puts one byte.
+fn put_byte(p: &mut Page, at: usize, byte: u8)
+    requires { at + 1 ≤ 4096 }
+    ensures put { (place : ℕ) → image_of p.new.bytes place
+        ≡ put (image_of p.old.bytes) at (byte ∷ []) place }
+    ensures size { length p.new.bytes ≡ length p.old.bytes }
+{
+    put_bytes(p, at, &[byte]);
+}
+
+// Puts a name into its field; the bytes behind it are 0.
+fn put_name(p: &mut Page, at: usize, name: &[u8])
+    requires inside { at + 33 ≤ 4096 }
+    requires name { length name.now ≤ 32 }
+    ensures put { (place : ℕ) → image_of p.new.bytes place
+        ≡ put (image_of p.old.bytes) at (name_field name.now) place }
+    ensures size { length p.new.bytes ≡ length p.old.bytes }
+{
+    let zeros = [0; 32];
+    put_byte(p, at, name.len() as u8);
+    put_bytes(p, at + 1, name);
+    put_bytes(p, at + 1 + name.len(), &zeros[name.len()..]);
+}
+
+fn kind_byte(kind: Kind) -> u8
+    ensures { result ≡ kind_byte kind }
+{
+    match kind {
+        Kind::BigInt => 1,
+        Kind::VarChar(_) => 2,
+        Kind::Geo => 3,
+    }
+}
+
+// The size of a VARCHAR column; the others have none.
+fn kind_size(kind: Kind) -> u16
+    ensures { result ≡ kind_size kind }
+{
+    match kind {
+        Kind::BigInt => 0,
+        Kind::VarChar(most) => most,
+        Kind::Geo => 0,
+    }
+}
+
+fn flag_byte(flag: bool) -> u8
+    ensures { result ≡ flag_byte flag }
+{
+    if flag { 1 } else { 0 }
+}
+
+// Puts a column into its field.
+fn put_column(p: &mut Page, at: usize, column: &Column)
+    requires inside { at + 37 ≤ 4096 }
+    requires name { IsName column.now.name }
+    ensures put { (place : ℕ) → image_of p.new.bytes place
+        ≡ put (image_of p.old.bytes) at (column_field column.now) place }
+    ensures size { length p.new.bytes ≡ length p.old.bytes }
+{
+    put_name(p, at, column.name.as_slice());
+    put_byte(p, at + 33, kind_byte(column.kind));
+    put_u16(p, at + 34, kind_size(column.kind));
+    put_byte(p, at + 36, flag_byte(column.indexed));
+}
+
+// Puts columns into their fields, one after another.
+fn put_columns(p: &mut Page, at: usize, columns: &[Column])
+    requires inside { at + 37 * length columns.now ≤ 4096 }
+    requires names { All (λ column. IsName column.name) columns.now }
+    ensures put { (place : ℕ) → image_of p.new.bytes place
+        ≡ put (image_of p.old.bytes) at (flat_map column_field columns.now) place }
+    ensures size { length p.new.bytes ≡ length p.old.bytes }
+{
+    for (k, column) in columns.iter().enumerate() {
+        put_column(p, at + COLUMN_BYTES * k, column);
+    }
+}
+
+// Puts the roots of a definition.
+fn put_roots(p: &mut Page, at: usize, t: &TableDef)
+    requires inside { at + 12 ≤ 4096 }
+    ensures put { (place : ℕ) → image_of p.new.bytes place
+        ≡ put (image_of p.old.bytes) at (roots_field t.now) place }
+    ensures size { length p.new.bytes ≡ length p.old.bytes }
+    ensures roots { HasRoots t.now }
+{
+    let trees = t.trees;
+    put_u32(p, at, t.root.0);
+    put_u32(p, at + 4, trees[0].0);
+    put_u32(p, at + 8, trees[1].0);
+}
+
+/// Puts a definition into its place.
+pub(crate) fn put_table(p: &mut Page, at: usize, t: &TableDef)
+    requires inside { at + 638 ≤ 4096 }
+    requires name { IsName t.now.name }
+    requires columns { length t.now.schema.columns ≤ most_columns }
+    requires names { All (λ column. IsName column.name) t.now.schema.columns }
+    ensures put { (place : ℕ) → image_of p.new.bytes place
+        ≡ put (image_of p.old.bytes) at (table_bytes t.now) place }
+    ensures size { length p.new.bytes ≡ length p.old.bytes }
+    ensures roots { HasRoots t.now }
+{
+    put_name(p, at, t.name.as_slice());
+    put_byte(p, at + 33, t.schema.columns.len() as u8);
+    put_roots(p, at + 34, t);
+    put_columns(p, at + 46, t.schema.columns.as_slice());
+}

@@ -1,0 +1,12 @@
+use Rattle.std.proofs.Common.{◌≤◌, ◌-◌, List}
+use Rattle.isp_disk.specs.Moments.{image_of}
+use Rattle.isp_format.specs.Leaf.{Stored}
+use Rattle.isp_clustered.specs.Cells.{Stand}
+use Rattle.isp_clustered.proofs.WholeLaws.{Copied}
+use Rattle.isp_clustered.proofs.leaves.rows_in.Given as goal
+
+abbrev pub invariant-loop-at : goal.invariant-loop-at
+invariant-loop-at l = (64 ≤ l.at) × (l.at ≤ l.used) × ((rows : List Stored) → Stand (image_of l.p.bytes) 64 l.used rows → Copied (image_of l.p.bytes) l.at l.used rows l.rows)
+
+abbrev pub decreases-loop-at : goal.decreases-loop-at
+decreases-loop-at l = l.used - l.at
