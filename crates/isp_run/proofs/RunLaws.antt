@@ -5,10 +5,10 @@ use Rattle.std.proofs.lemmas.List.{take_all}
 use Rattle.std.proofs.lemmas.List.Concat.{flat_map-append}
 use Rattle.isp_disk.specs.Outside.{PrintsPart}
 use Rattle.isp_serial.specs.declared.script.Script.{Script as ScriptOf}
-use Rattle.isp_serial.specs.Alone.{run_answers, run_after}
+use Rattle.isp_serial.specs.Alone.{run_answers, run_after, none_full}
 use Rattle.isp_serial.specs.Answers.{Answer}
 use Rattle.isp_serial.specs.Spelling.{line_of}
-use Rattle.isp_serial.proofs.AloneSerial.{all_plain, alone_is_serial}
+use Rattle.isp_serial.proofs.AloneSerial.{alone_answers, alone_is_serial}
 use Rattle.isp_script.specs.BadLines.{IsBadLine}
 use Rattle.isp_script.specs.Grammar.{IsScript}
 use Rattle.isp_script.proofs.BadLaws.{not_both}
@@ -21,7 +21,7 @@ use Rattle.isp_run.proofs.SqlLaws.{sql_is_faithful}
 
 -- the lines that a run prints which is done
 abbrev pub lines_of : ScriptOf → List ℕ
-lines_of script = flat_map line_of (run_answers sql script)
+lines_of script = flat_map line_of (run_answers sql none_full [] script)
 
 -- the lines of some answers and of one more
 pub one_more_line : (answers : List Answer) (last : Answer) → flat_map line_of (answers ++ last ∷ []) ≡ flat_map line_of answers ++ line_of last
@@ -29,13 +29,16 @@ one_more_line answers last = flat_map-append line_of answers (last ∷ []) ∙ a
 
 -- the headline, from what the parts of a run say
 pub ran : (script : ScriptOf) (bytes before now : List ℕ) → IsScript bytes script → IsSmall script → now ≡ before ++ lines_of script → Ran script before now
-ran script bytes before now is small told = record {
-  answers = run_answers sql script;
-  told = told;
-  plain = all_plain sql script sql_is_faithful small.0 small.1;
-  after = run_after sql script;
-  serial = alone_is_serial sql script sql_is_faithful (script_is_alone bytes script is);
-}
+ran script bytes before now is small told =
+    let has = alone_answers sql none_full [] script sql_is_faithful refl small.0 small.1 in
+    record {
+      answers = run_answers sql none_full [] script;
+      told = told;
+      alone = has.alone;
+      full_where = has.full_where;
+      after = run_after sql none_full [] script;
+      serial = alone_is_serial sql none_full [] script sql_is_faithful (script_is_alone bytes script is);
+    }
 
 -- a part of the lines is a front of what is printed by a run that is done
 pub front : (script : ScriptOf) (bytes rest before now : List ℕ) → rest ≡ [] → IsScript bytes script → IsSmall script → PrintsPart before (lines_of script) now → FrontOf bytes rest before now

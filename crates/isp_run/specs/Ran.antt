@@ -4,7 +4,7 @@
 use Rattle.std.specs.Prelude.{◌≡◌, ◌⊎◌, ℕ, ◌+◌, ◌<◌, ◌^◌, List, [], ◌++◌, length, All}
 use Rattle.std.specs.List.{flat_map}
 use Rattle.isp_serial.specs.declared.script.Script.{Script}
-use Rattle.isp_serial.specs.Alone.{AreSmall, IsPlain}
+use Rattle.isp_serial.specs.Alone.{AreSmall, IsAnswerAlone, IsFullWhere, none_full}
 use Rattle.isp_serial.specs.Answers.{Answer}
 use Rattle.isp_serial.specs.Serial.{Serial}
 use Rattle.isp_serial.specs.Spelling.{line_of}
@@ -19,7 +19,8 @@ use Rattle.isp_run.specs.declared.status.Status.TheVariants.{Done, Usage, BadScr
 pub record Ran (script : Script) (before now : List ℕ) : Type 0 where
   pub answers : List Answer
   pub told : now ≡ before ++ flat_map line_of answers
-  pub plain : All IsPlain answers
+  pub alone : All IsAnswerAlone answers
+  pub full_where : All (IsFullWhere none_full) answers
   pub after : List Table
   pub serial : Serial sql script [] answers after
 

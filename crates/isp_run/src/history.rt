@@ -1,7 +1,7 @@
 //! A run on tables in memory, with the changes that led to them.
 
 ghost use Rattle.std.specs.Prelude.{◌≡◌, [], IfOk, OnOk, OnErr};
-ghost use Rattle.isp_serial.specs.Alone.{after_statement, after_text, changed, rolled_back, settled};
+ghost use Rattle.isp_serial.specs.Alone.{after_statement, changed, rolled_back, settled};
 ghost use Rattle.isp_plain.specs.Does.{does};
 ghost use Rattle.isp_serial.specs.Serial.{done, place_at};
 ghost use Rattle.isp_run.specs.History.{tables_after};
@@ -81,7 +81,7 @@ impl History {
     /// What the text of a session is answered, and what it does. The error is want of memory.
     pub fn answer(&mut self, session: u32, text: &Bytes) -> Result<Reply, AllocError>
         ensures reply { IfOk result (λ reply. reply ≡ (done sql self.old.present session self.old.inside text.now).reply) }
-        ensures state { OnOk result (self.new ≡ after_text sql session text.now self.old) }
+        ensures state { OnOk result (self.new ≡ after_statement self.old (sql.meaning self.old.present (place_at session self.old.inside) text.now)) }
     {
         let place = place_of(session, self.begun.is_some());
         let statement = statement_of(self.alloc, &self.tables, place, text)?;

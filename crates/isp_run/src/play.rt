@@ -1,8 +1,8 @@
 //! A script that is run on plain tables in memory: the setup, and then the session.
 
-ghost use Rattle.std.specs.Prelude.{◌≡◌, ◌+◌, ◌<◌, ◌^◌, false, length, OnOk, IfOk};
+ghost use Rattle.std.specs.Prelude.{◌≡◌, ◌+◌, ◌<◌, ◌^◌, [], false, length, OnOk, IfOk};
 ghost use Rattle.std.specs.List.{flat_map};
-ghost use Rattle.isp_serial.specs.Alone.{after_session, after_text, after_texts, rolled_back, answer_to, answer_with, answers_to, run_answers, session_answers, sessions_answers, turn_of, AreSmall};
+ghost use Rattle.isp_serial.specs.Alone.{after_session, after_text, after_texts, rolled_back, answer_to, answer_with, answers_to, run_answers, session_answers, sessions_answers, turn_of, none_full, AreSmall};
 ghost use Rattle.isp_serial.specs.Spelling.{line_of};
 ghost use Rattle.isp_plain.specs.Texts.{end_text, reply_text};
 ghost use Rattle.isp_run.specs.Ran.{IsSmall};
@@ -66,9 +66,9 @@ fn answer<W: World>(
     text: &Bytes,
 ) -> Result<(), Stop>
     ensures tells { Tells W.World
-        (line_of (answer_to sql session number text.now history.old))
+        (line_of (answer_to sql none_full session number text.now history.old))
         world.old world.new result }
-    ensures state { OnOk result (history.new ≡ after_text sql session text.now history.old) }
+    ensures state { OnOk result (history.new ≡ after_text sql none_full session number text.now history.old) }
 {
     let reply = history.answer(session, text)?;
     print_answer(alloc, world, session, number, &reply)?;
@@ -84,9 +84,9 @@ fn answer_texts<W: World>(
     texts: &[Bytes],
 ) -> Result<(), Stop>
     ensures tells { Tells W.World
-        (flat_map line_of (answers_to sql session 1 texts.now history.old))
+        (flat_map line_of (answers_to sql none_full session 1 texts.now history.old))
         world.old world.new result }
-    ensures state { OnOk result (history.new ≡ after_texts sql session texts.now history.old) }
+    ensures state { OnOk result (history.new ≡ after_texts sql none_full session 1 texts.now history.old) }
 {
     for (i, text) in texts.iter().enumerate() {
         answer(alloc, history, world, session, i as u64 + 1, text)?;
@@ -128,9 +128,9 @@ fn answer_session<W: World>(
     session: &Session,
 ) -> Result<(), Stop>
     ensures tells { Tells W.World
-        (flat_map line_of (session_answers sql session.now history.old))
+        (flat_map line_of (session_answers sql none_full session.now history.old))
         world.old world.new result }
-    ensures state { OnOk result (history.new ≡ after_session sql session.now history.old) }
+    ensures state { OnOk result (history.new ≡ after_session sql none_full session.now history.old) }
 {
     let number = session.number;
     let texts = session.texts.as_slice();
@@ -146,7 +146,7 @@ fn answer_sessions<W: World>(
     sessions: &[Session],
 ) -> Result<(), Stop>
     ensures tells { Tells W.World
-        (flat_map line_of (sessions_answers sql sessions.now history.old))
+        (flat_map line_of (sessions_answers sql none_full sessions.now history.old))
         world.old world.new result }
 {
     for session in sessions {
@@ -174,7 +174,7 @@ fn count_sessions(sessions: &[Session])
 /// Answers the setup and then the sessions, from no tables, and prints each answer's line.
 pub fn play<W: World>(alloc: Global, script: &Script, world: &mut W) -> Result<(), Stop>
     ensures tells { Tells W.World
-        (flat_map line_of (run_answers sql script.now))
+        (flat_map line_of (run_answers sql none_full [] script.now))
         world.old world.new result }
     ensures small { IsSmall script.now }
 {

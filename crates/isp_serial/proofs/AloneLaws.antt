@@ -9,17 +9,17 @@ use Rattle.isp_serial.specs.declared.script.Script.{Script}
 use Rattle.isp_plain.specs.declared.refusal.Refusal.{Refusal}
 use Rattle.isp_plain.specs.declared.statement.Statement.{Statement}
 use Rattle.isp_plain.specs.declared.statement.Statement.TheVariants.{Create, Insert, Select, Update, Delete, Begin, Commit, Rollback, Refused}
-use Rattle.isp_serial.specs.Alone.{State, settled, rolled_back, changed, after_statement, after_text, after_texts, turn_of, answer_with, answer_to, answers_to, IsFaithful, MayMean}
+use Rattle.isp_serial.specs.Alone.{Full, State, settled, rolled_back, changed, after_statement, after_text, after_texts, turn_of, answer_with, answer_to, answers_to, IsFaithful, MayMean}
 use Rattle.isp_serial.specs.Answers.{Answer, NeverFalls, answers_of, counted_from, is_end, is_full, is_deadlock}
 use Rattle.isp_plain.specs.Does.{does}
 use Rattle.isp_serial.specs.Script.{texts_of, text_in, text_at}
 use Rattle.isp_serial.specs.Serial.{Agrees, Becomes, Ends, EndsAll, Repeats, Replays, Pending, is_given, is_inside, done, effect_of, place_at}
 use Rattle.isp_plain.specs.Tables.{Table}
 use Rattle.isp_plain.specs.Refusals.{refusal_text}
-use Rattle.isp_plain.specs.Texts.{ok_text, end_text, reply_text}
+use Rattle.isp_plain.specs.Texts.{ok_text, end_text, full_text, reply_text}
 use Rattle.isp_serial.specs.Transactions.{Language, Effect, begins, commits, rolls_back, stays, ends, keeps, is_begin, is_close, is_commit, is_ok}
 use Rattle.isp_plain.proofs.DoesLaws.{RefusesOwn, does_own}
-use Rattle.isp_serial.proofs.GivenLaws.{own_not_given}
+use Rattle.isp_serial.proofs.GivenLaws.{full_says, own_not_given}
 
 -- a run of answers goes on where another one ends
 pub joined : (language : Language) (script : Script) (t u v : List Table) (p q r : Pending) (xs ys : List Answer) →
@@ -67,9 +67,9 @@ refuses_own effect Commit may = tt
 refuses_own effect Rollback may = tt
 refuses_own effect (Refused refusal) may = may
 
--- no answer to a text is END, a full file's or a deadlock's
+-- no reply to a text is END, a full file's or a deadlock's
 pub not_given : (language : Language) → IsFaithful language → (session number : ℕ) (text : List ℕ) (state : State) →
-    is_given (answer_to language session number text state) ≡ false
+    is_given (answer_with session number (reply_text (done language state.present session state.inside text).reply)) ≡ false
 not_given language is_faithful session number text state =
     let at = place_at session state.inside in
     let statement = language.meaning state.present at text in
@@ -161,6 +161,12 @@ verdict state Rollback effect may outside =
     (rollback_verdict state.committed state.present state.inside (says_ok state Rollback) ok_says outside)
 verdict state (Refused refusal) effect may outside =
     refused_verdict state.committed state.present state.inside (says_ok state (Refused refusal)) effect (refusal_says refusal)
+
+-- a full file's answer leaves the state
+full_verdict : (c p : List Table) (inside ok : Bool) (effect : Effect) → ok ≡ false → (inside ≡ false → p ≡ c) → Verdict (at c p inside) effect ok p (at c p inside)
+full_verdict c p inside true effect is outside = cc
+full_verdict c p true false effect is outside = inr (and_false (is_close effect), refl, refl)
+full_verdict c p false false effect is outside = inl (ap not (and_false (is_begin effect)), ap (λ t. at t p false) (sym (outside refl)))
 
 -- answers done again, and whether a transaction is open behind them
 pub Reaches : Language → Script → Bool → List Table → List Answer → List Table → Bool → Type 0
@@ -306,9 +312,11 @@ second false true z no_x no_y = cc
 second false false z no_x no_y = refl
 
 repeats : (language : Language) (session number : ℕ) (text : List ℕ) (state : State) (o : Option (List ℕ)) → o ≡ Some text →
-    Repeats language o state.inside state.present (answer_to language session number text state) (done language state.present session state.inside text).tables
+    let outcome = done language state.present session state.inside text in
+    Repeats language o state.inside state.present (answer_with session number (reply_text outcome.reply)) outcome.tables
 repeats language session number text state o is =
-    let P : Option (List ℕ) → Type 0 = λ o. Repeats language o state.inside state.present (answer_to language session number text state) (done language state.present session state.inside text).tables in
+    let outcome = done language state.present session state.inside text in
+    let P : Option (List ℕ) → Type 0 = λ o. Repeats language o state.inside state.present (answer_with session number (reply_text outcome.reply)) outcome.tables in
     subst P (sym is) (refl, refl)
 
 -- one answer further
@@ -317,12 +325,11 @@ Further language script session state pending answer next =
     (left : Pending) × Ends language script state.committed pending answer next.committed left × Stands language script session next left
 
 further : (language : Language) (script : Script) (session number : ℕ) (said : List ℕ) (state : State) (pending : Pending) (effect : Effect) (tables : List Table) (next : State) →
-    effect_of language (text_at script session number) ≡ effect → is_given (answer_with session number said) ≡ false → Stands language script session state pending →
+    effect_of language (text_at script session number) ≡ effect → (is_end (answer_with session number said) ≡ false) × (is_deadlock (answer_with session number said) ≡ false) → Stands language script session state pending →
     Agrees language script state.inside state.present (answer_with session number said) tables → Verdict state effect (bytes_eq said ok_text) tables next →
     Further language script session state pending (answer_with session number said) next
-further language script session number said state pending effect tables next effect_is given stands agrees (inl (over, is)) =
+further language script session number said state pending effect tables next effect_is own stands agrees (inl (over, is)) =
     let a = answer_with session number said in
-    let own = parts (is_end a) (is_full a) (is_deadlock a) given in
     let ended : ends (is_inside stands.answers) effect a ≡ true =
     ap (λ b. ends b effect a) stands.inside ∙ (third (is_end a) (is_deadlock a) _ own.0 own.1 ∙ over) in
     let kept : keeps (is_inside stands.answers) effect a ≡ is_kept state.inside effect =
@@ -339,9 +346,8 @@ further language script session number said state pending effect tables next eff
           )),
       subst (λ s. Stands language script session s (only session [])) (sym is) (stands_settled language script session _),
     )
-further language script session number said state pending effect tables next effect_is given stands agrees (inr (goes_on, is, begun)) =
+further language script session number said state pending effect tables next effect_is own stands agrees (inr (goes_on, is, begun)) =
     let a = answer_with session number said in
-    let own = parts (is_end a) (is_full a) (is_deadlock a) given in
     let ended : ends (is_inside stands.answers) effect a ≡ false =
     ap (λ b. ends b effect a) stands.inside ∙ (third (is_end a) (is_deadlock a) _ own.0 own.1 ∙ goes_on) in
     let reached = reaches_more language script false state.committed stands.answers state.present state.inside a tables stands.reached agrees in
@@ -362,19 +368,49 @@ further language script session number said state pending effect tables next eff
       }),
     )
 
--- the answer to one text
-pub one : (language : Language) (script : Script) → IsFaithful language → (session number : ℕ) (text : List ℕ) (state : State) (pending : Pending) →
+-- the answer to one text: what it does, or a full file's
+one_done : (language : Language) (script : Script) → IsFaithful language → (session number : ℕ) (text : List ℕ) (state : State) (pending : Pending) →
     text_at script session number ≡ Some text → Stands language script session state pending →
-    Further language script session state pending (answer_to language session number text state) (after_text language session text state)
-one language script is_faithful session number text state pending is stands =
+    Further language script session state pending (answer_with session number (reply_text (done language state.present session state.inside text).reply))
+    (after_statement state (language.meaning state.present (place_at session state.inside) text))
+one_done language script is_faithful session number text state pending is stands =
     let at = place_at session state.inside in
     let outcome = done language state.present session state.inside text in
+    let a = answer_with session number (reply_text outcome.reply) in
     let given = not_given language is_faithful session number text state in
-    further language script session number (reply_text outcome.reply) state pending (language.effect text) outcome.tables (after_text language session text state)
-    (ap (effect_of language) is) given stands
-    (match_false (is_given (answer_to language session number text state)) _ _ given (repeats language session number text state (text_at script session number) is))
+    further language script session number (reply_text outcome.reply) state pending (language.effect text) outcome.tables (after_statement state (language.meaning state.present at text))
+    (ap (effect_of language) is) (parts (is_end a) (is_full a) (is_deadlock a) given) stands
+    (match_false (is_given a) _ _ given (repeats language session number text state (text_at script session number) is))
     (verdict state (language.meaning state.present at text) (language.effect text) (is_faithful.meant state.present at text)
     (all_committed language script session state pending stands))
+
+full_given : (x y z : Bool) → y ≡ true → (x || y || z) ≡ true
+full_given true y z is = refl
+full_given false true z is = refl
+full_given false false z is = cc
+
+one_full : (language : Language) (script : Script) (session number : ℕ) (text : List ℕ) (state : State) (pending : Pending) →
+    text_at script session number ≡ Some text → Stands language script session state pending →
+    Further language script session state pending (answer_with session number full_text) state
+one_full language script session number text state pending is stands =
+    let a = answer_with session number full_text in
+    let says = full_says session number in
+    further language script session number full_text state pending (language.effect text) state.present state
+    (ap (effect_of language) is) (says.0, says.2) stands
+    (match_true (is_given a) _ _ (full_given (is_end a) (is_full a) (is_deadlock a) says.1) refl)
+    (full_verdict state.committed state.present state.inside (bytes_eq full_text ok_text) (language.effect text) says.3
+    (all_committed language script session state pending stands))
+
+pub one : (language : Language) (full : Full) (script : Script) → IsFaithful language → (session number : ℕ) (text : List ℕ) (state : State) (pending : Pending) →
+    text_at script session number ≡ Some text → Stands language script session state pending →
+    Further language script session state pending (answer_to language full session number text state) (after_text language full session number text state)
+one language full script is_faithful session number text state pending is stands = by (full session number)
+  where
+    by : (b : Bool) → Further language script session state pending
+        (answer_with session number (if b then full_text else reply_text (done language state.present session state.inside text).reply))
+        (if b then state else after_statement state (language.meaning state.present (place_at session state.inside) text))
+    by true = one_full language script session number text state pending is stands
+    by false = one_done language script is_faithful session number text state pending is stands
 
 end_is : (session number : ℕ) → (is_end (answer_with session number end_text) ≡ true) × (is_given (answer_with session number end_text) ≡ true)
 unfolding end_text
@@ -426,33 +462,33 @@ abbrev pub FurtherAll : Language → Script → ℕ → State → Pending → Li
 FurtherAll language script session state pending answers next =
     (left : Pending) × EndsAll language script state.committed pending answers next.committed left × Stands language script session next left
 
-pub all_of : (language : Language) (script : Script) → IsFaithful language → (session n : ℕ) (all texts : List (List ℕ)) (state : State) (pending : Pending) →
+pub all_of : (language : Language) (full : Full) (script : Script) → IsFaithful language → (session n : ℕ) (all texts : List (List ℕ)) (state : State) (pending : Pending) →
     texts_of script session ≡ Some all → drop n all ≡ texts → Stands language script session state pending →
-    FurtherAll language script session state pending (answers_to language session (n + 1) texts state) (after_texts language session texts state)
-all_of language script is_faithful session n all [] state pending of is stands = (pending, (refl, refl), stands)
-all_of language script is_faithful session n all (text ∷ texts) state pending of is stands =
+    FurtherAll language script session state pending (answers_to language full session (n + 1) texts state) (after_texts language full session (n + 1) texts state)
+all_of language full script is_faithful session n all [] state pending of is stands = (pending, (refl, refl), stands)
+all_of language full script is_faithful session n all (text ∷ texts) state pending of is stands =
     let here = at_place all n text texts is in
     let at : text_at script session (n + 1) ≡ Some text =
     ap (λ o. option_and_then (λ ts. text_in ts (n + 1)) o) of ∙ (text_in-next all n ∙ here.0) in
-    let next = after_text language session text state in
-    let first = one language script is_faithful session (n + 1) text state pending at stands in
-    let others = all_of language script is_faithful session (n + 1) all texts next first.0 of here.1 first.2 in
+    let next = after_text language full session (n + 1) text state in
+    let first = one language full script is_faithful session (n + 1) text state pending at stands in
+    let others = all_of language full script is_faithful session (n + 1) all texts next first.0 of here.1 first.2 in
     (others.0, (next.committed, first.0, first.1, others.1), others.2)
 
 pub same_number : (n : ℕ) → (n == n) ≡ true
 same_number n = grind (arith, nat_tests)
 
-pub length-answers_to : (language : Language) (session n : ℕ) (texts : List (List ℕ)) (state : State) →
-    length (answers_to language session n texts state) ≡ length texts
-length-answers_to language session n [] state = refl
-length-answers_to language session n (text ∷ texts) state =
-    ap suc (length-answers_to language session (n + 1) texts (after_text language session text state))
+pub length-answers_to : (language : Language) (full : Full) (session n : ℕ) (texts : List (List ℕ)) (state : State) →
+    length (answers_to language full session n texts state) ≡ length texts
+length-answers_to language full session n [] state = refl
+length-answers_to language full session n (text ∷ texts) state =
+    ap suc (length-answers_to language full session (n + 1) texts (after_text language full session n text state))
 
-pub numbers-answers_to : (language : Language) (session n : ℕ) (texts : List (List ℕ)) (state : State) →
-    map (λ a. a.number) (answers_to language session n texts state) ≡ counted_from n (answers_to language session n texts state)
-numbers-answers_to language session n [] state = refl
-numbers-answers_to language session n (text ∷ texts) state =
-    ap (λ ns. n ∷ ns) (numbers-answers_to language session (n + 1) texts (after_text language session text state))
+pub numbers-answers_to : (language : Language) (full : Full) (session n : ℕ) (texts : List (List ℕ)) (state : State) →
+    map (λ a. a.number) (answers_to language full session n texts state) ≡ counted_from n (answers_to language full session n texts state)
+numbers-answers_to language full session n [] state = refl
+numbers-answers_to language full session n (text ∷ texts) state =
+    ap (λ ns. n ∷ ns) (numbers-answers_to language full session (n + 1) texts (after_text language full session n text state))
 
 pub counted_from-append : {X : Type 0} (n : ℕ) (xs ys : List X) → counted_from n (xs ++ ys) ≡ counted_from n xs ++ counted_from (n + length xs) ys
 counted_from-append n [] ys = let e : n ≡ n + 0 = omega arith in ap (λ m. counted_from m ys) e
@@ -469,45 +505,55 @@ pub of_other : (session : ℕ) (a : Answer) (answers kept : List Answer) → (a.
 of_other session a answers kept is later =
     sym (if_else (a.session == session) (a ∷ answers_of session answers) (answers_of session answers) is) ∙ later
 
-pub of_its_own : (language : Language) (session n : ℕ) (texts : List (List ℕ)) (state : State) →
-    answers_of session (answers_to language session n texts state) ≡ answers_to language session n texts state
-of_its_own language session n [] state = refl
-of_its_own language session n (text ∷ texts) state =
-    of_same session (answer_to language session n text state) _ _ refl (of_its_own language session (n + 1) texts (after_text language session text state))
+pub of_its_own : (language : Language) (full : Full) (session n : ℕ) (texts : List (List ℕ)) (state : State) →
+    answers_of session (answers_to language full session n texts state) ≡ answers_to language full session n texts state
+of_its_own language full session n [] state = refl
+of_its_own language full session n (text ∷ texts) state =
+    of_same session (answer_to language full session n text state) _ _ refl (of_its_own language full session (n + 1) texts (after_text language full session n text state))
 
-pub of_none : (language : Language) (session other n : ℕ) (texts : List (List ℕ)) (state : State) → (session == other) ≡ false →
-    answers_of other (answers_to language session n texts state) ≡ []
-of_none language session other n [] state is = refl
-of_none language session other n (text ∷ texts) state is =
-    of_other other (answer_to language session n text state) _ _ is (of_none language session other (n + 1) texts (after_text language session text state) is)
+pub of_none : (language : Language) (full : Full) (session other n : ℕ) (texts : List (List ℕ)) (state : State) → (session == other) ≡ false →
+    answers_of other (answers_to language full session n texts state) ≡ []
+of_none language full session other n [] state is = refl
+of_none language full session other n (text ∷ texts) state is =
+    of_other other (answer_to language full session n text state) _ _ is (of_none language full session other (n + 1) texts (after_text language full session n text state) is)
 
 no_end : (x y z : Bool) → (x || y || z) ≡ false → x ≡ false
 no_end true y z is = cc
 no_end false y z is = refl
 
+pub not_end : (language : Language) (full : Full) → IsFaithful language → (session number : ℕ) (text : List ℕ) (state : State) →
+    is_end (answer_to language full session number text state) ≡ false
+not_end language full is_faithful session number text state = by (full session number)
+  where
+    by : (b : Bool) → is_end (answer_with session number (if b then full_text else reply_text (done language state.present session state.inside text).reply)) ≡ false
+    by true = (full_says session number).0
+    by false =
+        let a = answer_with session number (reply_text (done language state.present session state.inside text).reply) in
+        no_end (is_end a) (is_full a) (is_deadlock a) (not_given language is_faithful session number text state)
+
 -- none of the answers to the texts is an END, or has a number from m on
-pub no_ends : (language : Language) → IsFaithful language → (session n m : ℕ) (texts : List (List ℕ)) (state : State) → n + length texts ≤ m →
-    All (λ a. (is_end a ≡ true) ↔ (a.number ≡ m)) (answers_to language session n texts state)
-no_ends language is_faithful session n m [] state below = λ k d inside. absurd (omega arith)
-no_ends language is_faithful session n m (text ∷ texts) state below =
-    let a = answer_to language session n text state in
-    let none = no_end (is_end a) (is_full a) (is_deadlock a) (not_given language is_faithful session n text state) in
+pub no_ends : (language : Language) (full : Full) → IsFaithful language → (session n m : ℕ) (texts : List (List ℕ)) (state : State) → n + length texts ≤ m →
+    All (λ a. (is_end a ≡ true) ↔ (a.number ≡ m)) (answers_to language full session n texts state)
+no_ends language full is_faithful session n m [] state below = λ k d inside. absurd (omega arith)
+no_ends language full is_faithful session n m (text ∷ texts) state below =
+    let a = answer_to language full session n text state in
+    let none = not_end language full is_faithful session n text state in
     All-cons (λ a. (is_end a ≡ true) ↔ (a.number ≡ m)) a _
     ((λ over. let e : true ≡ false = sym over ∙ none in cc), (λ same. absurd (omega arith)))
-    (no_ends language is_faithful session (n + 1) m texts (after_text language session text state) (omega arith))
+    (no_ends language full is_faithful session (n + 1) m texts (after_text language full session n text state) (omega arith))
 
 -- turns of a session rise with its statements
-pub rising : (language : Language) (session least n m : ℕ) (texts : List (List ℕ)) (state : State) → (session == 0) ≡ false → least ≤ n → n + length texts ≡ m →
-    NeverFalls least (map (λ a. a.turn) (answers_to language session n texts state ++ answer_with session m end_text ∷ []))
-rising language session least n m [] state is low last =
+pub rising : (language : Language) (full : Full) (session least n m : ℕ) (texts : List (List ℕ)) (state : State) → (session == 0) ≡ false → least ≤ n → n + length texts ≡ m →
+    NeverFalls least (map (λ a. a.turn) (answers_to language full session n texts state ++ answer_with session m end_text ∷ []))
+rising language full session least n m [] state is low last =
     let turn : m ≡ turn_of session m = if_else (session == 0) 0 m is in (subst (λ t. least ≤ t) turn (omega arith), tt)
-rising language session least n m (text ∷ texts) state is low last =
+rising language full session least n m (text ∷ texts) state is low last =
     let turn : n ≡ turn_of session n = if_else (session == 0) 0 n is in
-    let rest = answers_to language session (n + 1) texts (after_text language session text state) ++ answer_with session m end_text ∷ [] in
+    let rest = answers_to language full session (n + 1) texts (after_text language full session n text state) ++ answer_with session m end_text ∷ [] in
     subst (λ t. (least ≤ t) × NeverFalls t (map (λ a. a.turn) rest)) turn
-    (low, rising language session n (n + 1) m texts (after_text language session text state) is (omega arith) (omega arith))
+    (low, rising language full session n (n + 1) m texts (after_text language full session n text state) is (omega arith) (omega arith))
 
-pub flat : (language : Language) (n : ℕ) (texts : List (List ℕ)) (state : State) (more : List Answer) → NeverFalls 0 (map (λ a. a.turn) more) →
-    NeverFalls 0 (map (λ a. a.turn) (answers_to language 0 n texts state ++ more))
-flat language n [] state more rest = rest
-flat language n (text ∷ texts) state more rest = (omega arith, flat language (n + 1) texts (after_text language 0 text state) more rest)
+pub flat : (language : Language) (full : Full) (n : ℕ) (texts : List (List ℕ)) (state : State) (more : List Answer) → NeverFalls 0 (map (λ a. a.turn) more) →
+    NeverFalls 0 (map (λ a. a.turn) (answers_to language full 0 n texts state ++ more))
+flat language full n [] state more rest = rest
+flat language full n (text ∷ texts) state more rest = (omega arith, flat language full (n + 1) texts (after_text language full 0 n text state) more rest)

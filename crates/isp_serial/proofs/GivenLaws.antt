@@ -2,6 +2,7 @@
 use Rattle.std.proofs.Common.{◌≡◌, ℕ, Bool, true, false, List, ◌∷◌, ◌++◌, length, refl}
 use Rattle.std.specs.Fmt.{digits}
 use Rattle.std.specs.List.{flat_map}
+use Rattle.std.specs.Str.{bytes_eq}
 use Rattle.isp_wkt.specs.declared.cause.WktCause.{WktCause}
 use Rattle.isp_wkt.specs.declared.cause.WktCause.TheVariants as cause
 use Rattle.isp_plain.specs.declared.refusal.Refusal.{Refusal}
@@ -12,6 +13,7 @@ use Rattle.isp_plain.specs.Refusals.{state, words, cause_words, refusal_text, is
 use Rattle.isp_plain.specs.Texts.{ok_text, end_text, full_text, deadlock_text, count_text, row_text, reply_text}
 use Rattle.isp_plain.proofs.DoesLaws.{IsOwn}
 use Rattle.isp_serial.specs.Alone.{answer_with}
+use Rattle.isp_serial.specs.Answers.{is_deadlock, is_end, is_full}
 use Rattle.isp_serial.specs.Serial.{is_given}
 
 abbrev is_taken : ℕ → ℕ → List ℕ → Bool
@@ -68,3 +70,10 @@ own_not_given session number (reply.Count n) own = count_own session number n
 own_not_given session number (reply.Rows rows) own = counted_own session number (length rows) (flat_map (λ row. 32 ∷ row_text row) rows)
 own_not_given session number (reply.Err refusal) own = refusal_own session number refusal own
 own_not_given session number reply.End own = absurd own
+
+-- a full file's answer is no other given one, and says no OK
+pub full_says : (session number : ℕ) →
+    (is_end (answer_with session number full_text) ≡ false) × (is_full (answer_with session number full_text) ≡ true)
+    × (is_deadlock (answer_with session number full_text) ≡ false) × (bytes_eq full_text ok_text ≡ false)
+unfolding ok_text end_text full_text deadlock_text state words digits
+full_says session number = (refl, refl, refl, refl)

@@ -10,5 +10,5 @@
 mod laws;
 mod script;
 
-pub use laws::{law_alone_is_serial, law_spelled_once};
+pub use laws::{law_alone_answers, law_alone_is_serial, law_full_decides, law_spelled_once};
 pub use script::{Place, Script, Session, Sessions, Texts, Word, Words};
