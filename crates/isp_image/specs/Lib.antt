@@ -1,0 +1,5 @@
+pub mod Courses
+pub mod Databases
+pub mod Files
+pub mod Keyed
+pub mod Laws

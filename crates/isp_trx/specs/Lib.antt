@@ -1,0 +1,5 @@
+pub mod Laws
+pub mod Noted
+pub mod Roots
+pub mod Transactions
+pub mod Writes

@@ -1,0 +1,135 @@
+//! Marked rows go.
+ghost use Rattle.std.specs.Prelude.{◌≡◌, ◌<◌, ℕ, true, false, IfErr, IfOk, OnOk};
+ghost use Rattle.isp_clustered.specs.Calls.{HasTree};
+ghost use Rattle.isp_space.specs.Changes.{MayChange};
+ghost use Rattle.isp_clustered.specs.Trees.{Tree, has_marked};
+ghost use Rattle.isp_page.specs.Calls.{Continues, ContinuesOrLacks, MakesWith};
+ghost use Rattle.isp_page.specs.Steps.{FailsOnPages, FailsOrLacks, IsNoDamage, IsNoDamageOrLacks};
+ghost use Rattle.isp_trx.specs.Writes.{Drops, SweepsAt, kept_mark};
+
+use crate::noted::RowKey;
+use isp_clustered::{Kept, drop_marked, get};
+use isp_format::PageNo;
+use isp_page::{Fault, Pages, StoreFault};
+use std::alloc::Global;
+
+// Whether a row is there that is marked.
+fn has_mark(got: &Option<Kept>) -> bool
+    ensures { result ≡ kept_mark got.now }
+{
+    match got {
+        Some(kept) => kept.marked,
+        None => false,
+    }
+}
+
+// Whether the tree has a marked row of that key.
+fn finds_mark<P: Pages>(alloc: Global, pages: &mut P, root: PageNo, key: i64) -> Result<bool, Fault>
+    requires usable { P.usable pages.old ≡ true }
+    requires page { root.0 < (P.shape pages.old).pages }
+    ensures kept { ContinuesOrLacks P.Pages pages.old pages.new result }
+    ensures contents { P.tells → OnOk result (P.contents pages.new ≡ P.contents pages.old) }
+    ensures mini { OnOk result (P.mini pages.new ≡ P.mini pages.old) }
+    ensures marked { P.tells → (table : ℕ) (tree : Tree) → HasTree P.Pages pages.old table root.0
+        tree
+        → IfOk result (λ there. there ≡ has_marked key tree) }
+    ensures sound { P.tells → (table : ℕ) (tree : Tree) → HasTree P.Pages pages.old table root.0
+        tree
+        → IfErr result IsNoDamageOrLacks }
+{
+    let got = get(alloc, pages, root, key)?;
+    Ok(has_mark(&got))
+}
+
+// Takes the marked row of a key out.
+fn drop_tree<P: Pages>(pages: &mut P, root: PageNo, at: RowKey) -> Result<(), StoreFault>
+    requires can { MayChange P.Pages 1 pages.old }
+    requires page { root.0 < (P.shape pages.old).pages }
+    ensures kept { Continues P.Pages pages.old pages.new result }
+    ensures begun { OnOk result ((P.mini pages.new).is_begun ≡ true) }
+    ensures dropped { P.tells → OnOk result (Drops (P.shape pages.old).pages (P.contents pages.old)
+        root.0 at
+        (P.contents pages.new)) }
+    ensures sound { P.tells → (table : ℕ) (tree : Tree) → HasTree P.Pages pages.old table root.0
+        tree
+        → has_marked at.key tree ≡ true → IfErr result IsNoDamage }
+{
+    drop_marked(pages, root, at.key)
+}
+
+// The same in a mini-transaction of its own, which isn't finished yet.
+fn begin_drop<P: Pages>(pages: &mut P, root: PageNo, at: RowKey) -> Result<(), StoreFault>
+    requires usable { P.usable pages.old ≡ true }
+    requires none { (P.mini pages.old).is_begun ≡ false }
+    requires page { root.0 < (P.shape pages.old).pages }
+    ensures kept { Continues P.Pages pages.old pages.new result }
+    ensures begun { OnOk result ((P.mini pages.new).is_begun ≡ true) }
+    ensures dropped { P.tells → OnOk result (Drops (P.shape pages.old).pages (P.contents pages.old)
+        root.0 at
+        (P.contents pages.new)) }
+    ensures sound { P.tells → (table : ℕ) (tree : Tree) → HasTree P.Pages pages.old table root.0
+        tree
+        → has_marked at.key tree ≡ true → IfErr result IsNoDamage }
+{
+    pages.begin();
+    drop_tree(pages, root, at)?;
+    Ok(())
+}
+
+// The same, finished.
+fn drop_row<P: Pages>(pages: &mut P, root: PageNo, at: RowKey) -> Result<(), StoreFault>
+    requires usable { P.usable pages.old ≡ true }
+    requires none { (P.mini pages.old).is_begun ≡ false }
+    requires page { root.0 < (P.shape pages.old).pages }
+    ensures made { MakesWith FailsOnPages P.Pages (Drops (P.shape pages.old).pages (P.contents
+        pages.old) root.0
+        at) pages.old pages.new result }
+    ensures mini { OnOk result ((P.mini pages.new).is_begun ≡ false) }
+    ensures dropped { P.tells → OnOk result (Drops (P.shape pages.old).pages (P.contents pages.old)
+        root.0 at
+        (P.contents pages.new)) }
+    ensures sound { P.tells → (table : ℕ) (tree : Tree) → HasTree P.Pages pages.old table root.0
+        tree
+        → has_marked at.key tree ≡ true → IfErr result IsNoDamage }
+{
+    match begin_drop(pages, root, at) {
+        Ok(()) => pages.finish(),
+        Err(fault) => Err(fault),
+    }
+}
+
+/// Takes the row of a key out, if it is marked, in one mini-transaction. No old row is noted of the
+/// key any more, and its table has its tree on that root. It takes memory.
+///
+/// # Errors
+///
+/// Disk; want of memory; or Damaged, as of `get` and `drop_marked` of isp_clustered.
+pub fn drop_if_marked<P: Pages>(
+    alloc: Global,
+    pages: &mut P,
+    root: PageNo,
+    at: RowKey,
+) -> Result<(), Fault>
+    requires usable { P.usable pages.old ≡ true }
+    requires none { (P.mini pages.old).is_begun ≡ false }
+    requires page { root.0 < (P.shape pages.old).pages }
+    ensures made { MakesWith FailsOrLacks P.Pages (SweepsAt (P.shape pages.old).pages (P.contents
+        pages.old)
+        root.0 at) pages.old pages.new result }
+    ensures mini { OnOk result ((P.mini pages.new).is_begun ≡ false) }
+    ensures swept { P.tells → OnOk result (SweepsAt (P.shape pages.old).pages (P.contents
+        pages.old) root.0 at
+        (P.contents pages.new)) }
+    ensures sound { P.tells → (table : ℕ) (tree : Tree) → HasTree P.Pages pages.old table root.0
+        tree
+        → IfErr result IsNoDamageOrLacks }
+{
+    match finds_mark(alloc, pages, root, at.key) {
+        Ok(true) => match drop_row(pages, root, at) {
+            Ok(()) => Ok(()),
+            Err(fault) => Err(Fault::Store(fault)),
+        },
+        Ok(false) => Ok(()),
+        Err(fault) => Err(fault),
+    }
+}
