@@ -3,6 +3,7 @@ pub mod SerialLaws
 pub mod TellLaws
 pub mod PlacingLaws
 pub mod ListTests
+pub mod StandsLaws
 pub mod DivideTests
 pub mod EventTests
 pub mod RunTests

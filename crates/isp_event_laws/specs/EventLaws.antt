@@ -14,6 +14,7 @@ use Rattle.isp_serial.specs.Serial.{EndsAll, Pending, none_pending}
 use Rattle.isp_serial.specs.Transactions.{Language}
 use Rattle.isp_forest.specs.Tree.{Tree}
 use Rattle.isp_forest.specs.Steps.{is_among}
+use Rattle.isp_forest.specs.Place.{Stands}
 use Rattle.isp_forest.specs.Search.{Search}
 use Rattle.isp_forest.specs.Attach.{is_tested, percolates}
 use Rattle.isp_forest.specs.Visit.{visit}
@@ -23,7 +24,7 @@ use Rattle.isp_events.specs.Sessions.{session_at}
 use Rattle.isp_events.specs.State.{State, TreeSearch, session_count}
 use Rattle.isp_events.specs.Ways.{Machine}
 use Rattle.isp_events.specs.Lines.{Line, On, Told, Visit, answer, waits_for_table, waits_for_key, waits_to_insert, traced, locked_table, locked_key, visited_page, stepped_to, found_stale, placed_entry, wrote_row, scanned_leaf, found_full, undid}
-use Rattle.isp_events.specs.Next.{Descent, EventKind, answers, undoes, creates, asks_table, asks_key, visits, scans, steps, goes_stale, finds_full, places, writes, next}
+use Rattle.isp_events.specs.Next.{Descent, EventKind, answers, undoes, creates, asks_table, asks_key, visits, scans, steps, goes_stale, finds_full, places, writes, next, path_stands}
 use Rattle.isp_events.specs.Deadlocks.{deadlock_lines}
 use Rattle.isp_events.specs.Reading.{search_before, visited}
 use Rattle.isp_events.specs.Placing.{in_the_way, last_page, percolating, place_told, searches_of, sessions_on, tree_for}
@@ -134,6 +135,10 @@ PlacesUndisturbing =
     (state : State) (s : ℕ) (d : Descent) (statement : ℕ) (x : TreeSearch) → AreNumbered state → in_the_way state s d ≡ []
     → Has (searches_of state.searches d) x → (x.search.session == s) ≡ false
     → MayPlace (tree_for state d) d.path d.box s statement x.search
+
+-- the test of a path says exactly that it stands
+abbrev pub StandsIsDecided : Type 0
+StandsIsDecided = (tree : Tree) (path : List ℕ) → (path_stands tree path ≡ true) ↔ Stands tree path
 
 -- ---- serial answers
 

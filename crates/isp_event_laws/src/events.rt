@@ -1,6 +1,6 @@
 //! Runs and sequences of events, what an event tells, and whom an entry waits for.
 
-ghost use Rattle.isp_event_laws.specs.EventLaws.{RunIsEvents, EventsJoin, NextIsTold, ListsPercolating, NamesWhoIsInTheWay, PlacesUndisturbing};
+ghost use Rattle.isp_event_laws.specs.EventLaws.{RunIsEvents, EventsJoin, NextIsTold, ListsPercolating, NamesWhoIsInTheWay, PlacesUndisturbing, StandsIsDecided};
 
 /// A run is a sequence of events, whose turns never fall.
 pub fn law_run_is_events()
@@ -30,4 +30,9 @@ pub fn law_names_who_is_in_the_way()
 /// Where it is placed, each search of another session allows it.
 pub fn law_places_undisturbing()
     ensures { PlacesUndisturbing }
+{}
+
+/// Whether a path stands is decided by a test that computes.
+pub fn law_stands_is_decided()
+    ensures { StandsIsDecided }
 {}

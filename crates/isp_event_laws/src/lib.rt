@@ -9,6 +9,6 @@ mod serial;
 
 pub use events::{
     law_events_join, law_lists_percolating, law_names_who_is_in_the_way, law_next_is_told,
-    law_places_undisturbing, law_run_is_events,
+    law_places_undisturbing, law_run_is_events, law_stands_is_decided,
 };
 pub use serial::law_serial_computes;

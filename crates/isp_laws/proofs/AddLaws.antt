@@ -50,7 +50,7 @@ last_among (p ∷ r ∷ rest) q h = let i : is_among (r ∷ rest) q ≡ true = l
     or_true true = refl
     or_true false = refl
 
-last_is_leaf : (tree : Tree) (path : List ℕ) (q : ℕ) (page : Node) → EndsOnLeaf tree path → is_last path q ≡ true → page_at tree q ≡ Some page → page.level ≡ 0
+pub last_is_leaf : (tree : Tree) (path : List ℕ) (q : ℕ) (page : Node) → EndsOnLeaf tree path → is_last path q ≡ true → page_at tree q ≡ Some page → page.level ≡ 0
 last_is_leaf tree [] q page leaf h there = absurd leaf
 last_is_leaf tree (p ∷ []) q page leaf h there =
     let here : p ≡ q = eqb-true p q h in
@@ -84,7 +84,7 @@ previous tree p (q ∷ rest) r path h =
     first p c = let t : (p == p) ≡ true = grind (arith, nat_tests) in rw t refl
 
 -- who names a page of the path is on the path
-above_on_path : (tree : Tree) → Forest tree → (path : List ℕ) → Stands tree path → (p q : ℕ) (e : Entry) → Names tree p q e → is_among path q ≡ true → is_among path p ≡ true
+pub above_on_path : (tree : Tree) → Forest tree → (path : List ℕ) → Stands tree path → (p q : ℕ) (e : Entry) → Names tree p q e → is_among path q ≡ true → is_among path p ≡ true
 above_on_path tree forest [] stands p q e names h = absurd stands.starts
 above_on_path tree forest (root ∷ rest) stands p q e names h =
     elim (root == q) as (λ b. (root == q) ≡ b → (b || is_among rest q) ≡ true → is_among (root ∷ rest) p ≡ true) [

@@ -1,5 +1,5 @@
 -- What stands on lists that were joined, changed or filtered, and how often.
-use Rattle.std.proofs.Common.{◌≡◌, ◌⊎◌, inl, inr, ℕ, suc, ◌+◌, ◌<◌, ◌==◌, Bool, true, false, cond, List, [], ◌∷◌, ◌++◌, map, refl, ap, arith, eqb-true, eq-eqb}
+use Rattle.std.proofs.Common.{◌≡◌, ◌⊎◌, inl, inr, ℕ, suc, ◌+◌, ◌<◌, ◌==◌, ◌≤◌, Bool, true, false, cond, List, [], ◌∷◌, ◌++◌, map, length, length-append, refl, ap, ◌∙◌, arith, eqb-true, eq-eqb}
 use Rattle.std.specs.Prelude.{filter}
 use Rattle.isp_base.specs.Lists.{Has, times}
 
@@ -63,3 +63,30 @@ times-other n x xs e = rw e (omega arith)
 
 pub times-same : (n : ℕ) (xs : List ℕ) → times n (n ∷ xs) ≡ suc (times n xs)
 times-same n xs = let t : (n == n) ≡ true = eq-eqb n n refl in rw t (omega arith)
+
+-- a list with x on it is what stands before x, x, and what stands behind it
+pub record Parting (ys : List ℕ) (x : ℕ) : Type 0 where
+  pub before : List ℕ
+  pub after : List ℕ
+  pub is : ys ≡ before ++ x ∷ after
+
+pub parting : (ys : List ℕ) (x : ℕ) → Has ys x → Parting ys x
+parting [] x h = absurd h
+parting (y ∷ ys) x (inl e) = record { before = []; after = ys; is = ap (λ z. z ∷ ys) e }
+parting (y ∷ ys) x (inr h) = let p : Parting ys x = parting ys x h in record { before = y ∷ p.before; after = p.after; is = ap (λ zs. y ∷ zs) p.is }
+
+pub times-parts : (q x : ℕ) (before after : List ℕ) → times q (before ++ x ∷ after) ≡ times q (x ∷ []) + times q (before ++ after)
+times-parts q x before after = omega (arith, times-append q before (x ∷ after), times-append q before after)
+
+-- a list on which each number stands no more often is no longer
+pub no_longer : (xs ys : List ℕ) → ((q : ℕ) → times q xs ≤ times q ys) → length xs ≤ length ys
+no_longer [] ys h = omega arith
+no_longer (x ∷ xs) ys h =
+    let here : Has ys x = Has-times x ys (omega (arith, h x, times-same x xs)) in
+    let p : Parting ys x = parting ys x here in
+    let rest : length xs ≤ length (p.before ++ p.after) = no_longer xs (p.before ++ p.after) (λ q. (
+    let e : times q ys ≡ times q (x ∷ []) + times q (p.before ++ p.after) = ap (times q) p.is ∙ times-parts q x p.before p.after in
+    let k : times q (x ∷ xs) ≤ times q ys = h q in
+    omega arith)) in
+    let all : length ys ≡ length (p.before ++ x ∷ p.after) = ap (λ (zs : List ℕ). length zs) p.is in
+    omega (arith, rest, all, length-append p.before (x ∷ p.after), length-append p.before p.after)

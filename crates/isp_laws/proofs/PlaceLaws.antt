@@ -51,3 +51,17 @@ pub place_keeps : (tree : Tree) (path : List ℕ) (box : Corners) (key : ℤ) (n
 place_keeps tree path box key number q ds sound stands is_box can =
     relieve_keeps (add tree path box key number) q (reverse path) ds
     (record { forest = add_keeps tree path box key number sound.forest stands is_box; links = add_links tree path box key number sound.links }) can
+
+-- the same where nothing is known of right links
+pub relieve_forest : (tree : Tree) (q : ℕ) (up : List ℕ) (ds : List Division) → Forest tree → CanRelieve tree q up ds → Forest (relieve tree q up ds)
+relieve_forest tree q up [] forest can = forest
+relieve_forest tree q [] (d ∷ ds) forest can = forest
+relieve_forest tree q (o ∷ []) (d ∷ ds) forest can =
+    split_keeps (raise tree q) q o d.left d.right d.page (raise_keeps tree forest q (can_raise tree forest q o d.page d.left d.right can.0 can.1)) can.1
+relieve_forest tree q (o ∷ above ∷ up) (d ∷ ds) forest can =
+    relieve_forest (split tree o above d.left d.right d.page) q (above ∷ up) ds (split_keeps tree o above d.left d.right d.page forest can.0) can.1
+
+pub place_forest : (tree : Tree) (path : List ℕ) (box : Corners) (key : ℤ) (number q : ℕ) (ds : List Division) → Forest tree → Stands tree path → IsBox box
+    → CanRelieve (add tree path box key number) q (reverse path) ds → Forest (place tree path box key number q ds)
+place_forest tree path box key number q ds forest stands is_box can =
+    relieve_forest (add tree path box key number) q (reverse path) ds (add_keeps tree path box key number forest stands is_box) can

@@ -8,6 +8,7 @@ pub mod VisitSearchLaws
 pub mod PlaceSearchLaws
 pub mod FoundLaws
 pub mod VisitsEndLaws
+pub mod VisitOnceLaws
 pub mod CoveredByTests
 pub mod WrongStepLaws
 pub mod LikeLaws

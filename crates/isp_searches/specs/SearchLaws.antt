@@ -8,7 +8,7 @@ use Rattle.isp_mbr.specs.Predicates.{satisfies}
 use Rattle.isp_mbr.specs.declared.predicate.Predicate.{Predicate}
 use Rattle.isp_forest.specs.declared.entry.Entry.{Entry}
 use Rattle.isp_forest.specs.declared.entry.To.TheVariants.{Row}
-use Rattle.isp_base.specs.Lists.{Has}
+use Rattle.isp_base.specs.Lists.{Has, times}
 use Rattle.isp_forest.specs.Tree.{Node, Tree, page_at, numbers}
 use Rattle.isp_forest.specs.Forest.{Forest}
 use Rattle.isp_forest.specs.Walk.{EndsAfter, LinkedForest}
@@ -50,7 +50,7 @@ RemoveKeepsCovered = (tree : Tree) (number : ℕ) (x : Search) → Covered tree 
 abbrev pub PlaceKeepsCovered : Type 0
 PlaceKeepsCovered =
     (tree : Tree) (path : List ℕ) (box : Corners) (key : ℤ) (number q : ℕ) (divisions : List Division) (x : Search)
-    → LinkedForest tree → Stands tree path → IsBox box → CanRelieve (add tree path box key number) q (reverse path) divisions → Covered tree x
+    → Forest tree → Stands tree path → IsBox box → CanRelieve (add tree path box key number) q (reverse path) divisions → Covered tree x
     → Covered (place tree path box key number q divisions) (attached tree path box key number q divisions x)
 
 -- y is x with the pages that it is on and the keys that it found in any order, and any number of times
@@ -115,7 +115,7 @@ RemoveKeepsKnown = (tree : Tree) (number : ℕ) (x : Search) (items : List Item)
 abbrev pub PlaceKeepsKnown : Type 0
 PlaceKeepsKnown =
     (tree : Tree) (path : List ℕ) (box : Corners) (key : ℤ) (number q : ℕ) (divisions : List Division) (x : Search) (items : List Item) (session statement : ℕ)
-    → LinkedForest tree → Stands tree path → IsBox box → CanRelieve (add tree path box key number) q (reverse path) divisions
+    → Forest tree → Stands tree path → IsBox box → CanRelieve (add tree path box key number) q (reverse path) divisions
     → MayPlace tree path box session statement x → Covered tree x → Known tree x items
     → Known (place tree path box key number q divisions) (attached tree path box key number q divisions x) (items ++ item session statement key number ∷ [])
 
@@ -183,3 +183,16 @@ VisitComesNearer = (tree : Tree) (x y : Search) → LinkedForest tree → Covere
 -- where nothing is placed between them, the visits of a search are no more than some number
 abbrev pub VisitsEnd : Type 0
 VisitsEnd = (tree : Tree) (x : Search) → LinkedForest tree → Covered tree x → (most : ℕ) × ((n : ℕ) (y : Search) → Visits tree n x y → n ≤ most)
+
+-- over a tree that stays, a search that begins now visits no page twice, so it makes at most as many visits as the tree has pages:
+-- after n visits it is on n pages, each once, and the next visit is of one that it isn't on
+pub record VisitedOnce (tree : Tree) (n : ℕ) (x : Search) : Type 0 where
+  pub bound : n ≤ length tree.pages
+  pub many : length x.on ≡ n
+  pub once : (p : ℕ) → times p x.on ≤ 1
+  pub next : (y : Search) (v : IsVisit tree x y) → is_among x.on v.p ≡ false
+
+abbrev pub VisitsOnce : Type 0
+VisitsOnce =
+    (tree : Tree) (session statement : ℕ) (predicate : Predicate) (n : ℕ) (x : Search)
+    → Forest tree → Visits tree n (begun tree session statement predicate) x → VisitedOnce tree n x

@@ -13,7 +13,7 @@ pub use knowledge::{
     law_order_leaves_known, law_place_keeps_known, law_raise_keeps_known, law_remove_keeps_known,
     law_split_keeps_known, law_visit_keeps_known,
 };
-pub use progress::{law_visit_comes_nearer, law_visits_end};
+pub use progress::{law_visit_comes_nearer, law_visits_end, law_visits_once};
 pub use reach::{
     law_add_keeps_covered, law_beginning_covers, law_order_leaves_covered, law_place_keeps_covered,
     law_raise_keeps_covered, law_raise_may_come_first, law_remove_keeps_covered,

@@ -1,0 +1,4 @@
+pub mod SessionLaws
+pub mod TableLaws
+pub mod RowLaws
+pub mod RestedLaws

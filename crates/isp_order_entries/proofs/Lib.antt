@@ -1,0 +1,5 @@
+pub mod CountParts
+pub mod NumberedLaws
+pub mod RowParts
+pub mod EnteredLaws
+pub mod RestorableLaws

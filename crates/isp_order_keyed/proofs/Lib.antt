@@ -1,0 +1,4 @@
+pub mod LeafParts
+pub mod StoredParts
+pub mod TableParts
+pub mod KeyedLaws

@@ -1,0 +1,6 @@
+//! What every event keeps of tables and their rows by keys, as a public function with an empty body.
+#![tactic(auto)]
+
+mod keyed;
+
+pub use keyed::law_keyed_kept;

@@ -1,0 +1,10 @@
+pub mod LockLists
+pub mod WaitGraphs
+pub mod SearchParts
+pub mod CountLaws
+pub mod CompatibleLaws
+pub mod IntendedLaws
+pub mod CycleLaws
+pub mod LockedLaws
+pub mod IdleLaws
+pub mod WaitingLaws

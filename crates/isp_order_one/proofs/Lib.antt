@@ -1,0 +1,4 @@
+pub mod ImageLaws
+pub mod CommittedLaws
+pub mod OneStatusLaws
+pub mod NamedLaws

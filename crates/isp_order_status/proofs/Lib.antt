@@ -1,0 +1,2 @@
+pub mod LabelParts
+pub mod NotedLaws

@@ -1,0 +1,2 @@
+pub mod TreeOrder
+pub mod Missed

@@ -1,0 +1,5 @@
+pub mod WorkParts
+pub mod BeforeLaws
+pub mod TableLockLaws
+pub mod BoundLaws
+pub mod WrittenLaws
