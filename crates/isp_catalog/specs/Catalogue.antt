@@ -7,6 +7,7 @@ use Rattle.isp_disk.specs.Moments.{image_of, slice}
 use Rattle.isp_format.specs.Definition.{DefinedColumn, DefinedTable, StartsTable, bigint_kind, definition_page, definition_place, definition_size, geometry_kind, most_tables, varchar_kind}
 use Rattle.isp_format.specs.Empty.{first_fresh}
 use Rattle.isp_format.specs.Ranges.{Contents, page_of}
+use Rattle.isp_format.specs.Rules.{catalogue_rule}
 use Rattle.isp_plain.specs.declared.value.Column.{Column}
 use Rattle.isp_plain.specs.declared.value.Kind.{Kind}
 use Rattle.isp_plain.specs.declared.value.Kind.TheVariants as kind
@@ -120,7 +121,7 @@ BreaksRule pages contents tables page =
 
 -- the fault names no damaged page, or this rule with such a page
 abbrev pub NamesBroken : ℕ → Contents → ℕ → Fault → Type 0
-NamesBroken pages contents tables (Store (Damaged page rule)) = (rule ≡ 6) × BreaksRule pages contents tables page
+NamesBroken pages contents tables (Store (Damaged page rule)) = (rule ≡ catalogue_rule) × BreaksRule pages contents tables page
 NamesBroken pages contents tables _ = Unit {0}
 
 -- the definition of that number, whatever it is, has a name that is among these
@@ -129,5 +130,5 @@ NoNewTable pages contents number defs = (def : TableDef) → IsDefined pages con
 
 -- the fault names no damaged page, or the page of that definition with this rule, where it is none that is new
 abbrev pub NamesDefinition : ℕ → Contents → ℕ → List TableDef → Fault → Type 0
-NamesDefinition pages contents number defs (Store (Damaged page rule)) = (rule ≡ 6) × (page ≡ definition_page number) × NoNewTable pages contents number defs
+NamesDefinition pages contents number defs (Store (Damaged page rule)) = (rule ≡ catalogue_rule) × (page ≡ definition_page number) × NoNewTable pages contents number defs
 NamesDefinition pages contents number defs _ = Unit {0}

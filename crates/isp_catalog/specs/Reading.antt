@@ -1,6 +1,8 @@
 -- A definition read from the bytes of its page, as the code does. `Catalogue` says what it means.
 use Rattle.std.specs.Prelude.{◌≡◌, ℕ, zero, suc, ◌+◌, ◌==◌, ◌&&◌, Bool, true, false, nat_le, nat_lt, List, [], ◌∷◌, Option, Some, None, Result, Ok, Err, slice_index, if◌then◌else◌}
 use Rattle.isp_disk.specs.Moments.{image_of, slice}
+use Rattle.isp_format.specs.Definition.{bigint_kind, column_count_place, column_flag_place, column_kind_place, column_size, column_size_place, columns_place, first_tree_place, geometry_kind, most_columns, most_name, root_place, second_tree_place, varchar_kind}
+use Rattle.isp_format.specs.Empty.{first_fresh}
 use Rattle.isp_format.specs.Header.{number_in}
 use Rattle.isp_plain.specs.declared.value.Column.{Column}
 use Rattle.isp_plain.specs.declared.value.Kind.{Kind}
@@ -23,14 +25,14 @@ Finds (Err Lacking) read = Unit {0}
 
 -- the name in the field at that place
 abbrev pub name_in : List ℕ → ℕ → Option (List ℕ)
-name_in bytes at = if nat_le 1 (slice_index bytes at) && nat_le (slice_index bytes at) 32 then Some (slice (image_of bytes) (at + 1) (slice_index bytes at)) else None
+name_in bytes at = if nat_le 1 (slice_index bytes at) && nat_le (slice_index bytes at) most_name then Some (slice (image_of bytes) (at + 1) (slice_index bytes at)) else None
 
 abbrev pub varchar_in : ℕ → Option Kind
 varchar_in size = if is_size size then Some (kind.VarChar size) else None
 
 -- the kind of a column with that byte and that size
 abbrev pub kind_in : ℕ → ℕ → Option Kind
-kind_in byte size = if byte == 1 then Some kind.BigInt else (if byte == 2 then varchar_in size else (if byte == 3 then Some kind.Geo else None))
+kind_in byte size = if byte == bigint_kind then Some kind.BigInt else (if byte == varchar_kind then varchar_in size else (if byte == geometry_kind then Some kind.Geo else None))
 
 abbrev pub flag_in : ℕ → Option Bool
 flag_in byte = if byte == 0 then Some false else (if byte == 1 then Some true else None)
@@ -39,8 +41,8 @@ flag_in byte = if byte == 0 then Some false else (if byte == 1 then Some true el
 abbrev pub column_in : List ℕ → ℕ → Option Column
 column_in bytes at = do
   name ← name_in bytes at
-  kind ← kind_in (slice_index bytes (at + 33)) (number_in 2 bytes (at + 34))
-  indexed ← flag_in (slice_index bytes (at + 36))
+  kind ← kind_in (slice_index bytes (at + column_kind_place)) (number_in 2 bytes (at + column_size_place))
+  indexed ← flag_in (slice_index bytes (at + column_flag_place))
   Some (record { name = name; kind = kind; indexed = indexed })
 
 -- so many columns, in fields one after another
@@ -48,27 +50,27 @@ abbrev pub columns_in : List ℕ → ℕ → ℕ → Option (List Column)
 columns_in bytes at zero = Some []
 columns_in bytes at (suc more) = do
   column ← column_in bytes at
-  columns ← columns_in bytes (at + 37) more
+  columns ← columns_in bytes (at + column_size) more
   Some (column ∷ columns)
 
 -- the columns of a definition, within their limits
 abbrev pub all_columns_in : List ℕ → ℕ → ℕ → Option (List Column)
-all_columns_in bytes at count = if nat_le 1 count && nat_le count 16 then (columns_in bytes at count >>= λ columns. (if are_within_limits columns then Some columns else None)) else None
+all_columns_in bytes at count = if nat_le 1 count && nat_le count most_columns then (columns_in bytes at count >>= λ columns. (if are_within_limits columns then Some columns else None)) else None
 
 -- the page of a root
 abbrev pub root_in : ℕ → ℕ → Option ℕ
-root_in pages root = if nat_le 16 root && nat_lt root pages then Some root else None
+root_in pages root = if nat_le first_fresh root && nat_lt root pages then Some root else None
 
 -- the definition of that number at that place
 unfoldable pub table_in : ℕ → ℕ → List ℕ → ℕ → Option TableDef
 table_in pages number bytes at = do
   name ← name_in bytes at
-  columns ← all_columns_in bytes (at + 46) (slice_index bytes (at + 33))
-  root ← root_in pages (number_in 4 bytes (at + 34))
+  columns ← all_columns_in bytes (at + columns_place) (slice_index bytes (at + column_count_place))
+  root ← root_in pages (number_in 4 bytes (at + root_place))
   Some (record {
     number = number;
     name = name;
     schema = record { columns = columns };
     root = record { 0 = root };
-    trees = record { 0 = number_in 4 bytes (at + 38) } ∷ record { 0 = number_in 4 bytes (at + 42) } ∷ [];
+    trees = record { 0 = number_in 4 bytes (at + first_tree_place) } ∷ record { 0 = number_in 4 bytes (at + second_tree_place) } ∷ [];
   })

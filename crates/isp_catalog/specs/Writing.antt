@@ -2,7 +2,7 @@
 use Rattle.std.specs.Prelude.{◌≡◌, ℕ, ◌^◌, ◌<◌, List, [], ◌∷◌, ◌++◌, length, map, drop, get_or, replicate}
 use Rattle.std.specs.List.{flat_map}
 use Rattle.isp_disk.specs.Moments.{image_of, put}
-use Rattle.isp_format.specs.Definition.{definition_page, definition_place, flag_byte}
+use Rattle.isp_format.specs.Definition.{bigint_kind, definition_page, definition_place, flag_byte, geometry_kind, most_name, varchar_kind}
 use Rattle.isp_format.specs.Numbers.{bytes_of}
 use Rattle.isp_format.specs.Ranges.{Contents, page_of}
 use Rattle.isp_plain.specs.declared.value.Column.{Column}
@@ -12,16 +12,16 @@ use Rattle.isp_catalog.specs.declared.table.TableDef.{TableDef}
 
 -- zeros behind a name
 abbrev pub filling : List ℕ → List ℕ
-filling name = drop (length name) (replicate 32 0)
+filling name = drop (length name) (replicate most_name 0)
 
 -- a name in its field
 abbrev pub name_field : List ℕ → List ℕ
 name_field name = length name ∷ (name ++ filling name)
 
 abbrev pub kind_byte : Kind → ℕ
-kind_byte kind.BigInt = 1
-kind_byte (kind.VarChar most) = 2
-kind_byte kind.Geo = 3
+kind_byte kind.BigInt = bigint_kind
+kind_byte (kind.VarChar most) = varchar_kind
+kind_byte kind.Geo = geometry_kind
 
 abbrev pub kind_size : Kind → ℕ
 kind_size (kind.VarChar most) = most

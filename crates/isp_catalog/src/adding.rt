@@ -16,7 +16,7 @@ use crate::loading::empty_page;
 use crate::reading::{page_of_number, place_of_number};
 use crate::spelling::put_table;
 use crate::table::TableDef;
-use isp_format::PageNo;
+use isp_format::{CATALOGUE_RULE, PageNo, SPACE_PAGE};
 use isp_page::{Pages, StoreFault, replace};
 use isp_space::count_table;
 
@@ -76,7 +76,10 @@ pub fn add<P: Pages>(pages: &mut P, t: &TableDef) -> Result<(), StoreFault>
 {
     let count = count_table(pages)?;
     if count != t.number - 1 {
-        return Err(StoreFault::Damaged { page: 0, rule: 6 });
+        return Err(StoreFault::Damaged {
+            page: SPACE_PAGE,
+            rule: CATALOGUE_RULE,
+        });
     }
     write_table(pages, t)?;
     Ok(())

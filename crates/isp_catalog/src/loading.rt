@@ -3,6 +3,7 @@ ghost use Rattle.std.specs.Prelude.{◌≡◌, ◌<◌, ◌≤◌, All, List, fa
 ghost use Rattle.isp_page.specs.declared.fault.Fault.TheVariants.{Store};
 ghost use Rattle.isp_page.specs.declared.fault.StoreFault.TheVariants.{Damaged};
 ghost use Rattle.isp_format.specs.Definition.{most_tables};
+ghost use Rattle.isp_format.specs.Rules.{catalogue_rule};
 ghost use Rattle.isp_page.specs.Calls.{ContinuesOrLacks};
 ghost use Rattle.isp_page.specs.Steps.{IsNoDamageOrLacks};
 ghost use Rattle.isp_space.specs.Spaces.{IsSpace, Space};
@@ -13,16 +14,15 @@ use crate::reading::{page_of_number, table_at};
 use crate::table::TableDef;
 use crate::unread::Unread;
 use isp_base::Name;
-use isp_format::{Page, PageNo};
+use isp_format::{CATALOGUE_RULE, MOST_TABLES, PAGE_BYTES, Page, PageNo, SPACE_PAGE};
 use isp_page::{Fault, Pages, StoreFault};
 use isp_space::table_count;
 use std::alloc::Global;
 
-// How many tables a file has at most.
-const MOST_TABLES: u32 = 64;
-
 pub(crate) fn empty_page() -> Page {
-    Page { bytes: [0; 4096] }
+    Page {
+        bytes: [0; PAGE_BYTES],
+    }
 }
 
 fn has_table(defs: &[TableDef], name: &Name) -> bool
@@ -34,10 +34,13 @@ fn has_table(defs: &[TableDef], name: &Name) -> bool
 // A definition whose name is none of these, else what is wrong with its page.
 fn new_or(def: TableDef, defs: &[TableDef], page: u32) -> Result<TableDef, Fault>
     ensures { result ≡ (if has_table defs.now def.name
-        then Err (Store (Damaged page 6)) else Ok def) }
+        then Err (Store (Damaged page catalogue_rule)) else Ok def) }
 {
     if has_table(defs, &def.name) {
-        Err(Fault::Store(StoreFault::Damaged { page, rule: 6 }))
+        Err(Fault::Store(StoreFault::Damaged {
+            page,
+            rule: CATALOGUE_RULE,
+        }))
     } else {
         Ok(def)
     }
@@ -69,7 +72,10 @@ fn read_one<P: Pages>(
     pages.read(PageNo(p), &mut page)?;
     match table_at(alloc, &page, number, count) {
         Ok(def) => new_or(def, defs, p),
-        Err(Unread::Broken) => Err(Fault::Store(StoreFault::Damaged { page: p, rule: 6 })),
+        Err(Unread::Broken) => Err(Fault::Store(StoreFault::Damaged {
+            page: p,
+            rule: CATALOGUE_RULE,
+        })),
         Err(Unread::Lacking) => Err(Fault::Memory),
     }
 }
@@ -91,14 +97,18 @@ pub fn load<P: Pages>(alloc: Global, pages: &mut P) -> Result<Vec<TableDef>, Fau
         → IsSpace (P.shape pages.old).pages (P.contents pages.old) s → IfOk result (λ defs.
         HasTables (P.shape pages.old).pages (P.contents pages.old) s defs.items) }
     ensures broken { P.tells → (s : Space)
-        → IsSpace (P.shape pages.old).pages (P.contents pages.old) s → IfErr result (NamesBroken (P.shape pages.old).pages (P.contents pages.old) s.tables) }
+        → IsSpace (P.shape pages.old).pages (P.contents pages.old) s → IfErr result
+        (NamesBroken (P.shape pages.old).pages (P.contents pages.old) s.tables) }
     ensures sound { P.tells → (s : Space) (defs : List TableDef)
         → HasTables (P.shape pages.old).pages (P.contents pages.old) s defs
         → IfErr result IsNoDamageOrLacks }
 {
     let count = table_count(pages)?;
     if count > MOST_TABLES {
-        return Err(Fault::Store(StoreFault::Damaged { page: 0, rule: 6 }));
+        return Err(Fault::Store(StoreFault::Damaged {
+            page: SPACE_PAGE,
+            rule: CATALOGUE_RULE,
+        }));
     }
     let mut defs = Vec::new(alloc);
     for k in 0..count {

@@ -2,19 +2,23 @@
 ghost use Rattle.std.specs.Prelude.{◌≡◌, ◌+◌, ◌*◌, ◌≤◌, ◌∷◌, ◌++◌, [], ℕ, All, length};
 ghost use Rattle.std.specs.List.{flat_map};
 ghost use Rattle.isp_disk.specs.Moments.{image_of, put};
-ghost use Rattle.isp_format.specs.Definition.{flag_byte, most_columns};
+ghost use Rattle.isp_format.specs.Definition.{column_size, flag_byte, most_columns, most_definition, most_name, name_field_size};
 ghost use Rattle.isp_format.specs.Numbers.{bytes_of};
+ghost use Rattle.isp_format.specs.Ranges.{page_bytes};
 ghost use Rattle.isp_catalog.specs.Limits.{IsName};
 ghost use Rattle.isp_catalog.specs.Writing.{HasRoots, column_field, kind_byte, kind_size, name_field, roots_field, table_bytes};
 
-use crate::reading::COLUMN_BYTES;
 use crate::table::TableDef;
+use isp_format::definition_fields::{
+    BIGINT_KIND, COLUMN_BYTES, COLUMN_COUNT_PLACE, COLUMN_FLAG_PLACE, COLUMN_KIND_PLACE,
+    COLUMN_SIZE_PLACE, COLUMNS_PLACE, GEOMETRY_KIND, MOST_NAME, ROOT_PLACE, VARCHAR_KIND,
+};
 use isp_format::{Page, put_bytes, put_u16, put_u32};
 use isp_plain::{Column, Kind};
 
 // Puts one byte.
 fn put_byte(p: &mut Page, at: usize, byte: u8)
-    requires { at + 1 ≤ 4096 }
+    requires { at + 1 ≤ page_bytes }
     ensures put { (place : ℕ) → image_of p.new.bytes place
         ≡ put (image_of p.old.bytes) at (byte ∷ []) place }
     ensures size { length p.new.bytes ≡ length p.old.bytes }
@@ -24,13 +28,13 @@ fn put_byte(p: &mut Page, at: usize, byte: u8)
 
 // Puts a name into its field; the bytes behind it are 0.
 fn put_name(p: &mut Page, at: usize, name: &[u8])
-    requires inside { at + 33 ≤ 4096 }
-    requires name { length name.now ≤ 32 }
+    requires inside { at + name_field_size ≤ page_bytes }
+    requires name { length name.now ≤ most_name }
     ensures put { (place : ℕ) → image_of p.new.bytes place
         ≡ put (image_of p.old.bytes) at (name_field name.now) place }
     ensures size { length p.new.bytes ≡ length p.old.bytes }
 {
-    let zeros = [0; 32];
+    let zeros = [0; MOST_NAME];
     put_byte(p, at, name.len() as u8);
     put_bytes(p, at + 1, name);
     put_bytes(p, at + 1 + name.len(), &zeros[name.len()..]);
@@ -40,9 +44,9 @@ fn kind_byte(kind: Kind) -> u8
     ensures { result ≡ kind_byte kind }
 {
     match kind {
-        Kind::BigInt => 1,
-        Kind::VarChar(_) => 2,
-        Kind::Geo => 3,
+        Kind::BigInt => BIGINT_KIND,
+        Kind::VarChar(_) => VARCHAR_KIND,
+        Kind::Geo => GEOMETRY_KIND,
     }
 }
 
@@ -65,21 +69,21 @@ fn flag_byte(flag: bool) -> u8
 
 // Puts a column into its field.
 fn put_column(p: &mut Page, at: usize, column: &Column)
-    requires inside { at + 37 ≤ 4096 }
+    requires inside { at + column_size ≤ page_bytes }
     requires name { IsName column.now.name }
     ensures put { (place : ℕ) → image_of p.new.bytes place
         ≡ put (image_of p.old.bytes) at (column_field column.now) place }
     ensures size { length p.new.bytes ≡ length p.old.bytes }
 {
     put_name(p, at, column.name.as_slice());
-    put_byte(p, at + 33, kind_byte(column.kind));
-    put_u16(p, at + 34, kind_size(column.kind));
-    put_byte(p, at + 36, flag_byte(column.indexed));
+    put_byte(p, at + COLUMN_KIND_PLACE, kind_byte(column.kind));
+    put_u16(p, at + COLUMN_SIZE_PLACE, kind_size(column.kind));
+    put_byte(p, at + COLUMN_FLAG_PLACE, flag_byte(column.indexed));
 }
 
 // Puts columns into their fields, one after another.
 fn put_columns(p: &mut Page, at: usize, columns: &[Column])
-    requires inside { at + 37 * length columns.now ≤ 4096 }
+    requires inside { at + column_size * length columns.now ≤ page_bytes }
     requires names { All (λ column. IsName column.name) columns.now }
     ensures put { (place : ℕ) → image_of p.new.bytes place
         ≡ put (image_of p.old.bytes) at (flat_map column_field columns.now) place }
@@ -92,7 +96,7 @@ fn put_columns(p: &mut Page, at: usize, columns: &[Column])
 
 // Puts the roots of a definition.
 fn put_roots(p: &mut Page, at: usize, t: &TableDef)
-    requires inside { at + 12 ≤ 4096 }
+    requires inside { at + 12 ≤ page_bytes }
     ensures put { (place : ℕ) → image_of p.new.bytes place
         ≡ put (image_of p.old.bytes) at (roots_field t.now) place }
     ensures size { length p.new.bytes ≡ length p.old.bytes }
@@ -106,7 +110,7 @@ fn put_roots(p: &mut Page, at: usize, t: &TableDef)
 
 /// Puts a definition into its place.
 pub(crate) fn put_table(p: &mut Page, at: usize, t: &TableDef)
-    requires inside { at + 638 ≤ 4096 }
+    requires inside { at + most_definition ≤ page_bytes }
     requires name { IsName t.now.name }
     requires columns { length t.now.schema.columns ≤ most_columns }
     requires names { All (λ column. IsName column.name) t.now.schema.columns }
@@ -116,7 +120,7 @@ pub(crate) fn put_table(p: &mut Page, at: usize, t: &TableDef)
     ensures roots { HasRoots t.now }
 {
     put_name(p, at, t.name.as_slice());
-    put_byte(p, at + 33, t.schema.columns.len() as u8);
-    put_roots(p, at + 34, t);
-    put_columns(p, at + 46, t.schema.columns.as_slice());
+    put_byte(p, at + COLUMN_COUNT_PLACE, t.schema.columns.len() as u8);
+    put_roots(p, at + ROOT_PLACE, t);
+    put_columns(p, at + COLUMNS_PLACE, t.schema.columns.as_slice());
 }

@@ -38,6 +38,46 @@ varchar_kind = 2
 abbrev pub geometry_kind : ℕ
 geometry_kind = 3
 
+-- how many bytes the field of a name has: its length, and as many as a name has at most
+abbrev pub name_field_size : ℕ
+name_field_size = 33
+
+-- how many bytes the field of a column has, and where its kind, its size and its flag stand in them
+abbrev pub column_size : ℕ
+column_size = 37
+
+abbrev pub column_kind_place : ℕ
+column_kind_place = 33
+
+abbrev pub column_size_place : ℕ
+column_size_place = 34
+
+abbrev pub column_flag_place : ℕ
+column_flag_place = 36
+
+-- where the number of columns, the roots of the trees and the columns stand in a definition
+abbrev pub column_count_place : ℕ
+column_count_place = 33
+
+abbrev pub root_place : ℕ
+root_place = 34
+
+abbrev pub first_tree_place : ℕ
+first_tree_place = 38
+
+abbrev pub second_tree_place : ℕ
+second_tree_place = 42
+
+abbrev pub columns_place : ℕ
+columns_place = 46
+
+-- how many bytes the fields of as many columns as there may be have, and the definition with them
+abbrev pub most_column_bytes : ℕ
+most_column_bytes = 592
+
+abbrev pub most_definition : ℕ
+most_definition = 638
+
 pub record DefinedColumn : Type 0 where
   pub name : List ℕ
   pub kind : ℕ

@@ -15,6 +15,10 @@ Name = ℤ × ℕ
 abbrev pub name_size : ℕ
 name_size = 12
 
+-- where the page stands in an entry, behind the key
+abbrev pub child_place : ℕ
+child_place = 8
+
 -- how many entries an inner page has at most
 abbrev pub most_names : ℕ
 most_names = 336

@@ -2,8 +2,10 @@ pub mod Contents
 pub mod Control
 pub mod ControlValues
 pub mod Definition
+pub mod DefinitionFields
 pub mod Doublewrite
 pub mod Empty
+pub mod Fields
 pub mod HeadValues
 pub mod Header
 pub mod Inner
@@ -12,6 +14,7 @@ pub mod Leaf
 pub mod Log
 pub mod Numbers
 pub mod Ranges
+pub mod Rules
 pub mod Sizes
 pub mod Space
 pub mod SpaceValues

@@ -4,11 +4,11 @@ use Rattle.isp_format.specs.Control.{control_size, made_gate, most_fanout}
 use Rattle.isp_format.specs.Definition.{most_tables}
 use Rattle.isp_format.specs.Doublewrite.{count_place, doublewrite_gate, list_size, most_copies}
 use Rattle.isp_format.specs.Empty.{first_fresh}
-use Rattle.isp_format.specs.Kinds.{content_place, free_kind, leaf_kind, rtree_kind}
+use Rattle.isp_format.specs.Kinds.{content_place, free_kind, inner_kind, leaf_kind, rtree_kind, undo_kind}
 use Rattle.isp_format.specs.Leaf.{length_place, mark_place, slot_place, stored_head}
 use Rattle.isp_format.specs.Log.{batch_head, count_size, log_bytes, log_place, range_head}
 use Rattle.isp_format.specs.Ranges.{page_bytes}
-use Rattle.isp_format.specs.declared.kinds.TheConstants.{FREE_KIND, LEAF_KIND, RTREE_KIND}
+use Rattle.isp_format.specs.declared.kinds.TheConstants.{FREE_KIND, INNER_KIND, LEAF_KIND, RTREE_KIND, UNDO_KIND}
 use Rattle.isp_format.specs.declared.sizes.TheConstants.{BATCH_HEAD, CONTENT_PLACE, CONTROL_BYTES, COUNT_BYTES, COUNT_PLACE, DOUBLEWRITE_GATE, FIRST_FRESH, LENGTH_PLACE, LIST_BYTES, LOG_BYTES, LOG_PLACE, MADE_GATE, MARK_PLACE, MOST_COPIES, MOST_FANOUT, MOST_TABLES, PAGE_BYTES, RANGE_HEAD, SLOT_PLACE, STORED_HEAD}
 
 pub record AreFileSizes : Type 0 where
@@ -38,7 +38,9 @@ pub record ArePageSizes : Type 0 where
   pub row : LENGTH_PLACE ≡ length_place
   pub free : FREE_KIND ≡ free_kind
   pub leaf : LEAF_KIND ≡ leaf_kind
+  pub inner : INNER_KIND ≡ inner_kind
   pub rtree : RTREE_KIND ≡ rtree_kind
+  pub undo : UNDO_KIND ≡ undo_kind
 
 -- those of the file, of the log and of a page
 pub record AreSizes : Type 0 where

@@ -14,6 +14,13 @@ use Rattle.isp_format.specs.Ranges.{page_bytes}
 abbrev pub undo_slots : ℕ
 undo_slots = 32
 
+-- how many bytes a slot has, and where the last page of its chain stands in them
+abbrev pub undo_slot_size : ℕ
+undo_slot_size = 8
+
+abbrev pub last_place : ℕ
+last_place = 4
+
 -- the first and the last page of a slot's chain, 0 where the slot is free
 abbrev pub Slot : Type 0
 Slot = ℕ × ℕ
@@ -51,6 +58,19 @@ pub record OldImage : Type 0 where
 -- how many bytes an entry has beside its row
 abbrev pub image_head : ℕ
 image_head = 17
+
+-- where the key, the kind, the length of the row and the row stand in it
+abbrev pub image_key_place : ℕ
+image_key_place = 4
+
+abbrev pub image_kind_place : ℕ
+image_kind_place = 12
+
+abbrev pub image_length_place : ℕ
+image_length_place = 13
+
+abbrev pub image_row_place : ℕ
+image_row_place = 15
 
 -- the bytes of an entry
 abbrev pub image_bytes : OldImage → List ℕ

@@ -18,8 +18,14 @@ pub(crate) const CATALOGUE_KIND: u8 = 3;
 /// A leaf of a clustered tree.
 pub const LEAF_KIND: u8 = 4;
 
+/// A page of a clustered tree above its leaves.
+pub const INNER_KIND: u8 = 5;
+
 /// A page of an R-tree.
 pub const RTREE_KIND: u8 = 6;
+
+/// A page of an undo chain.
+pub const UNDO_KIND: u8 = 7;
 
 // How many columns a tree's owner may tell apart.
 const COLUMNS: u32 = 32;

@@ -10,6 +10,7 @@ ghost use Rattle.isp_opening.specs.Opening.{IsOpened, KeepsWorld, RefusesWith, w
 use crate::rules::{FileParts, OpenFault, test_rules};
 use isp_disk::{Failed, World};
 use isp_doublewrite::{Restored, restore};
+use isp_format::{COPIES_RULE, SPACE_PAGE};
 use isp_page::StoreFault;
 use isp_stable::Stable;
 
@@ -41,7 +42,10 @@ fn fault_of(fault: OpenFault) -> StoreFault
 {
     match fault {
         OpenFault::Disk => StoreFault::Disk,
-        OpenFault::Broken(rule) => StoreFault::Damaged { page: 0, rule },
+        OpenFault::Broken(rule) => StoreFault::Damaged {
+            page: SPACE_PAGE,
+            rule,
+        },
     }
 }
 
@@ -80,6 +84,6 @@ fn lay_copies<W: World>(world: &mut W, pages: u32) -> Result<(), OpenFault>
 {
     match restore(world, pages)? {
         Restored::Nothing | Restored::Laid => Ok(()),
-        Restored::Bad => Err(OpenFault::Broken(2)),
+        Restored::Bad => Err(OpenFault::Broken(COPIES_RULE)),
     }
 }

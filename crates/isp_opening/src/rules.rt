@@ -8,7 +8,7 @@ ghost use Rattle.isp_opening.specs.declared.rules.OpenFault.TheVariants.{Disk};
 
 use isp_disk::{Failed, World};
 use isp_doublewrite::check_copies;
-use isp_format::{CONTROL_BYTES, Control, control_in};
+use isp_format::{CONTROL_BYTES, CONTROL_RULE, COPIES_RULE, Control, LOG_RULE, control_in};
 use isp_redo::Log;
 
 /// What a file that keeps the rules has.
@@ -57,13 +57,13 @@ pub fn test_rules<W: World>(world: &mut W) -> Result<FileParts, OpenFault>
     ensures reads { OnlyReads W.World world.old world.new (disk_part result) }
 {
     let Some(control) = read_control(world)? else {
-        return Err(OpenFault::Broken(1));
+        return Err(OpenFault::Broken(CONTROL_RULE));
     };
     if !check_copies(world, control.pages)? {
-        return Err(OpenFault::Broken(2));
+        return Err(OpenFault::Broken(COPIES_RULE));
     }
     match Log::scan(world, control.pages)? {
         Some(log) => Ok(FileParts { control, log }),
-        None => Err(OpenFault::Broken(3)),
+        None => Err(OpenFault::Broken(LOG_RULE)),
     }
 }

@@ -4,6 +4,7 @@ ghost use Rattle.isp_replay.specs.Faults.{fault_of};
 ghost use Rattle.isp_replay.specs.declared.fault.ReplayFault.TheVariants.{DiskFailed};
 
 use isp_disk::Failed;
+use isp_format::{LOG_RULE, SPACE_PAGE};
 use isp_page::StoreFault;
 
 /// Why the log isn't put into the pages.
@@ -30,7 +31,10 @@ impl From<ReplayFault> for StoreFault {
     fn from(fault: ReplayFault) -> StoreFault {
         match fault {
             ReplayFault::DiskFailed => StoreFault::Disk,
-            ReplayFault::NoSuchPage => StoreFault::Damaged { page: 0, rule: 3 },
+            ReplayFault::NoSuchPage => StoreFault::Damaged {
+                page: SPACE_PAGE,
+                rule: LOG_RULE,
+            },
         }
     }
 }

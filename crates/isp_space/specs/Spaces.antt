@@ -6,6 +6,7 @@ use Rattle.isp_format.specs.Empty.{first_fresh}
 use Rattle.isp_format.specs.Header.{Header, header_of}
 use Rattle.isp_format.specs.Kinds.{free_kind}
 use Rattle.isp_format.specs.Ranges.{Contents, page_of}
+use Rattle.isp_format.specs.Rules.{chain_rule, space_rule}
 use Rattle.isp_format.specs.Space.{IsSpacePage, SpacePage}
 use Rattle.isp_page.specs.declared.fault.StoreFault.{StoreFault}
 use Rattle.isp_page.specs.declared.fault.StoreFault.TheVariants.{Damaged, Disk, Print}
@@ -92,7 +93,7 @@ taken s = record s { free = rest_of s.free; fresh = fresh_after s.free s.fresh }
 abbrev pub NamesSpace : StoreFault → Type 0
 NamesSpace Disk = ⊤
 NamesSpace Print = ⊤
-NamesSpace (Damaged page rule) = (4 ≤ rule) × (rule ≤ 5)
+NamesSpace (Damaged page rule) = (space_rule ≤ rule) × (rule ≤ chain_rule)
 
 -- the second space has the same free pages, and page 0 says it by these numbers
 pub record IsRecounted (s t : Space) (numbers : SpacePage) : Type 0 where

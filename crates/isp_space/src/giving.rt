@@ -12,7 +12,7 @@ ghost use Rattle.isp_space.specs.Giving.{IsGiven, IsRelinked, with_chain, with_g
 ghost use Rattle.isp_space.specs.Spaces.{IsSpace, NamesSpace, Space, first_of};
 
 use crate::space::{read_numbers, write_numbers};
-use isp_format::{Head, Page, PageNo, SpaceNumbers, head, set_head};
+use isp_format::{CHAIN_RULE, Head, Page, PageNo, SPACE_PAGE, SpaceNumbers, head, set_head};
 use isp_page::{Pages, StoreFault, replace};
 
 /// Gives a chain of pages back: so many, each with a link to the next, from the first to the last. They stand before the free
@@ -40,8 +40,10 @@ pub fn give_chain<P: Pages>(
     ensures given { P.tells → (s : Space) (chain : List ℕ)
         → IsSpace (P.shape pages.old).pages (P.contents pages.old) s
         → IsGiven (P.contents pages.old) s first.0 last.0 count chain
-        → OnOk result (IsSpace (P.shape pages.new).pages (P.contents pages.new) (with_chain chain s)) }
-    ensures link { P.tells → (s : Space) → IsSpace (P.shape pages.old).pages (P.contents pages.old) s
+        → OnOk result (IsSpace (P.shape pages.new).pages (P.contents pages.new)
+        (with_chain chain s)) }
+    ensures link { P.tells → (s : Space)
+        → IsSpace (P.shape pages.old).pages (P.contents pages.old) s
         → OnOk result (IsRelinked (first_of s.free)
         (page_of (P.contents pages.old) last.0) (page_of (P.contents pages.new) last.0)) }
     ensures sound { P.tells → (s : Space) (chain : List ℕ)
@@ -57,13 +59,17 @@ pub fn give_chain<P: Pages>(
             splice(pages, last, next, &page, &given)?;
             Ok(())
         }
-        None => Err(StoreFault::Damaged { page: 0, rule: 5 }),
+        None => Err(StoreFault::Damaged {
+            page: SPACE_PAGE,
+            rule: CHAIN_RULE,
+        }),
     }
 }
 
 // The numbers of page 0 once so many pages from that one on are given back.
 fn given_numbers(numbers: &SpaceNumbers, first: PageNo, count: u32) -> Option<SpaceNumbers>
-    ensures numbers { IfSome result (λ given. page_in given ≡ with_given first.0 count (page_in numbers.now)) }
+    ensures numbers { IfSome result (λ given.
+        page_in given ≡ with_given first.0 count (page_in numbers.now)) }
     ensures some { numbers.now.free_count + count < 2 ^ 32 → is_none result ≡ false }
 {
     match numbers.free_count.checked_add(count) {
@@ -112,7 +118,8 @@ fn link<P: Pages>(pages: &mut P, p: PageNo, next: PageNo) -> Result<(), StoreFau
     requires room { HasRoom p.0 (P.mini pages.old) }
     ensures kept { Continues P.Pages pages.old pages.new result }
     ensures sound { IfErr result IsNoDamage }
-    ensures others { P.tells → OnOk result (KeepsPages (is_page p.0) (P.contents pages.old) (P.contents pages.new)) }
+    ensures others { P.tells → OnOk result
+        (KeepsPages (is_page p.0) (P.contents pages.old) (P.contents pages.new)) }
     ensures grown { OnOk result (Grows (p.0 ∷ []) (P.mini pages.old) (P.mini pages.new)) }
     ensures link { P.tells → OnOk result (IsRelinked next.0
         (page_of (P.contents pages.old) p.0) (page_of (P.contents pages.new) p.0)) }

@@ -14,12 +14,13 @@ ghost use Rattle.isp_format.specs.SpaceValues.{page_in};
 ghost use Rattle.isp_space.specs.Spaces.{IsSpace, NamesSpace, Space, IsRecounted, counter_limit, free_pages, has_room, most_counted, next_free, room_pages, space_page, taken};
 
 use isp_format::{
-    FIRST_FRESH, MOST_TABLES, Page, PageNo, SpaceNumbers, set_space_numbers, space_numbers,
+    FIRST_FRESH, MOST_TABLES, Page, PageNo, SPACE_PAGE, SPACE_RULE, SpaceNumbers,
+    set_space_numbers, space_numbers,
 };
 use isp_page::{Pages, StoreFault, replace};
 
 // The page that says the space.
-const SPACE: PageNo = PageNo(0);
+const SPACE: PageNo = PageNo(SPACE_PAGE);
 
 // How many pages have to be free for one more change.
 const ROOM: u64 = 48;
@@ -47,11 +48,13 @@ pub(crate) fn read_numbers<P: Pages>(
     ensures contents { P.tells → OnOk result (P.contents pages.new ≡ P.contents pages.old) }
     ensures mini { OnOk result (P.mini pages.new ≡ P.mini pages.old) }
     ensures page { P.tells → OnOk result (into.new.bytes ≡ page_of (P.contents pages.old) 0) }
-    ensures found { P.tells → (s : Space) → IsSpace (P.shape pages.old).pages (P.contents pages.old) s
+    ensures found { P.tells → (s : Space)
+        → IsSpace (P.shape pages.old).pages (P.contents pages.old) s
         → IfOk result (λ n. page_in n ≡ space_page s) }
     ensures from { IfOk result (λ n. first_fresh ≤ n.fresh) }
     ensures to { IfOk result (λ n. n.fresh ≤ (P.shape pages.old).pages) }
-    ensures sound { P.tells → (s : Space) → IsSpace (P.shape pages.old).pages (P.contents pages.old) s
+    ensures sound { P.tells → (s : Space)
+        → IsSpace (P.shape pages.old).pages (P.contents pages.old) s
         → IfErr result IsNoDamage }
     ensures names { IfErr result NamesSpace }
 {
@@ -61,7 +64,10 @@ pub(crate) fn read_numbers<P: Pages>(
     if is_fresh(numbers.fresh, count) {
         Ok(numbers)
     } else {
-        Err(StoreFault::Damaged { page: 0, rule: 4 })
+        Err(StoreFault::Damaged {
+            page: SPACE_PAGE,
+            rule: SPACE_RULE,
+        })
     }
 }
 
@@ -75,9 +81,11 @@ pub fn free_count<P: Pages>(pages: &mut P) -> Result<u32, StoreFault>
     ensures kept { Continues P.Pages pages.old pages.new result }
     ensures contents { P.tells → OnOk result (P.contents pages.new ≡ P.contents pages.old) }
     ensures mini { OnOk result (P.mini pages.new ≡ P.mini pages.old) }
-    ensures count { P.tells → (s : Space) → IsSpace (P.shape pages.old).pages (P.contents pages.old) s
+    ensures count { P.tells → (s : Space)
+        → IsSpace (P.shape pages.old).pages (P.contents pages.old) s
         → IfOk result (λ n. n ≡ free_pages (P.shape pages.old).pages s) }
-    ensures sound { P.tells → (s : Space) → IsSpace (P.shape pages.old).pages (P.contents pages.old) s
+    ensures sound { P.tells → (s : Space)
+        → IsSpace (P.shape pages.old).pages (P.contents pages.old) s
         → IfErr result IsNoDamage }
 {
     let mut page = Page::zeros();
@@ -97,9 +105,11 @@ pub fn has_room<P: Pages>(pages: &mut P) -> Result<bool, StoreFault>
     ensures kept { Continues P.Pages pages.old pages.new result }
     ensures contents { P.tells → OnOk result (P.contents pages.new ≡ P.contents pages.old) }
     ensures mini { OnOk result (P.mini pages.new ≡ P.mini pages.old) }
-    ensures room { P.tells → (s : Space) → IsSpace (P.shape pages.old).pages (P.contents pages.old) s
+    ensures room { P.tells → (s : Space)
+        → IsSpace (P.shape pages.old).pages (P.contents pages.old) s
         → IfOk result (λ there. there ≡ has_room (P.shape pages.old).pages s) }
-    ensures sound { P.tells → (s : Space) → IsSpace (P.shape pages.old).pages (P.contents pages.old) s
+    ensures sound { P.tells → (s : Space)
+        → IsSpace (P.shape pages.old).pages (P.contents pages.old) s
         → IfErr result IsNoDamage }
 {
     let mut page = Page::zeros();
@@ -142,7 +152,8 @@ pub(crate) fn write_numbers<P: Pages>(
     requires room { HasRoom 0 (P.mini pages.old) }
     ensures kept { Continues P.Pages pages.old pages.new result }
     ensures sound { IfErr result IsNoDamage }
-    ensures others { P.tells → OnOk result (KeepsPages (is_page 0) (P.contents pages.old) (P.contents pages.new)) }
+    ensures others { P.tells → OnOk result
+        (KeepsPages (is_page 0) (P.contents pages.old) (P.contents pages.new)) }
     ensures grown { OnOk result (Grows (0 ∷ []) (P.mini pages.old) (P.mini pages.new)) }
     ensures says { P.tells → (was : SpacePage) → IsSpacePage (page_of (P.contents pages.old) 0) was
         → old.now.bytes ≡ page_of (P.contents pages.old) 0
@@ -165,9 +176,11 @@ fn write_counters<P: Pages>(
     requires room { HasRoom 0 (P.mini pages.old) }
     ensures kept { Continues P.Pages pages.old pages.new result }
     ensures sound { IfErr result IsNoDamage }
-    ensures others { P.tells → OnOk result (KeepsPages (is_page 0) (P.contents pages.old) (P.contents pages.new)) }
+    ensures others { P.tells → OnOk result
+        (KeepsPages (is_page 0) (P.contents pages.old) (P.contents pages.new)) }
     ensures grown { OnOk result (Grows (0 ∷ []) (P.mini pages.old) (P.mini pages.new)) }
-    ensures space { P.tells → (s t : Space) → IsSpace (P.shape pages.old).pages (P.contents pages.old) s
+    ensures space { P.tells → (s t : Space)
+        → IsSpace (P.shape pages.old).pages (P.contents pages.old) s
         → IsRecounted s t (page_in numbers.now) → old.now.bytes ≡ page_of (P.contents pages.old) 0
         → OnOk result (IsSpace (P.shape pages.new).pages (P.contents pages.new) t) }
 {
@@ -185,11 +198,15 @@ pub fn add_bytes<P: Pages>(pages: &mut P, n: u64) -> Result<(), StoreFault>
     requires begun { (P.mini pages.old).is_begun ≡ true }
     requires room { HasRoom 0 (P.mini pages.old) }
     ensures kept { Continues P.Pages pages.old pages.new result }
-    ensures others { P.tells → OnOk result (KeepsPages (is_page 0) (P.contents pages.old) (P.contents pages.new)) }
+    ensures others { P.tells → OnOk result
+        (KeepsPages (is_page 0) (P.contents pages.old) (P.contents pages.new)) }
     ensures grown { OnOk result (Grows (0 ∷ []) (P.mini pages.old) (P.mini pages.new)) }
-    ensures added { P.tells → (s : Space) → IsSpace (P.shape pages.old).pages (P.contents pages.old) s
-        → OnOk result (IsSpace (P.shape pages.new).pages (P.contents pages.new) (record s { bytes = s.bytes + n })) }
-    ensures sound { P.tells → (s : Space) → IsSpace (P.shape pages.old).pages (P.contents pages.old) s
+    ensures added { P.tells → (s : Space)
+        → IsSpace (P.shape pages.old).pages (P.contents pages.old) s
+        → OnOk result (IsSpace (P.shape pages.new).pages (P.contents pages.new)
+        (record s { bytes = s.bytes + n })) }
+    ensures sound { P.tells → (s : Space)
+        → IsSpace (P.shape pages.old).pages (P.contents pages.old) s
         → s.bytes + n < counter_limit → IfErr result IsNoDamage }
     ensures names { IfErr result NamesSpace }
 {
@@ -197,7 +214,10 @@ pub fn add_bytes<P: Pages>(pages: &mut P, n: u64) -> Result<(), StoreFault>
     let numbers = read_numbers(pages, &mut page)?;
     match raised(numbers.bytes, n) {
         Some(bytes) => write_counters(pages, &page, &SpaceNumbers { bytes, ..numbers }),
-        None => Err(StoreFault::Damaged { page: 0, rule: 4 }),
+        None => Err(StoreFault::Damaged {
+            page: SPACE_PAGE,
+            rule: SPACE_RULE,
+        }),
     }
 }
 
@@ -219,13 +239,18 @@ pub fn draw_number<P: Pages>(pages: &mut P) -> Result<u64, StoreFault>
     requires begun { (P.mini pages.old).is_begun ≡ true }
     requires room { HasRoom 0 (P.mini pages.old) }
     ensures kept { Continues P.Pages pages.old pages.new result }
-    ensures others { P.tells → OnOk result (KeepsPages (is_page 0) (P.contents pages.old) (P.contents pages.new)) }
+    ensures others { P.tells → OnOk result
+        (KeepsPages (is_page 0) (P.contents pages.old) (P.contents pages.new)) }
     ensures grown { OnOk result (Grows (0 ∷ []) (P.mini pages.old) (P.mini pages.new)) }
-    ensures drawn { P.tells → (s : Space) → IsSpace (P.shape pages.old).pages (P.contents pages.old) s
-        → OnOk result (IsSpace (P.shape pages.new).pages (P.contents pages.new) (record s { entries = s.entries + 1 })) }
-    ensures number { P.tells → (s : Space) → IsSpace (P.shape pages.old).pages (P.contents pages.old) s
+    ensures drawn { P.tells → (s : Space)
+        → IsSpace (P.shape pages.old).pages (P.contents pages.old) s
+        → OnOk result (IsSpace (P.shape pages.new).pages (P.contents pages.new)
+        (record s { entries = s.entries + 1 })) }
+    ensures number { P.tells → (s : Space)
+        → IsSpace (P.shape pages.old).pages (P.contents pages.old) s
         → IfOk result (λ number. number ≡ s.entries) }
-    ensures sound { P.tells → (s : Space) → IsSpace (P.shape pages.old).pages (P.contents pages.old) s
+    ensures sound { P.tells → (s : Space)
+        → IsSpace (P.shape pages.old).pages (P.contents pages.old) s
         → s.entries + 1 < counter_limit → IfErr result IsNoDamage }
 {
     let mut page = Page::zeros();
@@ -235,7 +260,10 @@ pub fn draw_number<P: Pages>(pages: &mut P) -> Result<u64, StoreFault>
             write_counters(pages, &page, &SpaceNumbers { entries, ..numbers })?;
             Ok(numbers.entries)
         }
-        None => Err(StoreFault::Damaged { page: 0, rule: 4 }),
+        None => Err(StoreFault::Damaged {
+            page: SPACE_PAGE,
+            rule: SPACE_RULE,
+        }),
     }
 }
 
@@ -249,13 +277,18 @@ pub fn count_table<P: Pages>(pages: &mut P) -> Result<u32, StoreFault>
     requires begun { (P.mini pages.old).is_begun ≡ true }
     requires room { HasRoom 0 (P.mini pages.old) }
     ensures kept { Continues P.Pages pages.old pages.new result }
-    ensures others { P.tells → OnOk result (KeepsPages (is_page 0) (P.contents pages.old) (P.contents pages.new)) }
+    ensures others { P.tells → OnOk result
+        (KeepsPages (is_page 0) (P.contents pages.old) (P.contents pages.new)) }
     ensures grown { OnOk result (Grows (0 ∷ []) (P.mini pages.old) (P.mini pages.new)) }
-    ensures counted { P.tells → (s : Space) → IsSpace (P.shape pages.old).pages (P.contents pages.old) s
-        → OnOk result (IsSpace (P.shape pages.new).pages (P.contents pages.new) (record s { tables = s.tables + 1 })) }
-    ensures count { P.tells → (s : Space) → IsSpace (P.shape pages.old).pages (P.contents pages.old) s
+    ensures counted { P.tells → (s : Space)
+        → IsSpace (P.shape pages.old).pages (P.contents pages.old) s
+        → OnOk result (IsSpace (P.shape pages.new).pages (P.contents pages.new)
+        (record s { tables = s.tables + 1 })) }
+    ensures count { P.tells → (s : Space)
+        → IsSpace (P.shape pages.old).pages (P.contents pages.old) s
         → IfOk result (λ count. count ≡ s.tables) }
-    ensures sound { P.tells → (s : Space) → IsSpace (P.shape pages.old).pages (P.contents pages.old) s
+    ensures sound { P.tells → (s : Space)
+        → IsSpace (P.shape pages.old).pages (P.contents pages.old) s
         → s.tables < most_tables → IfErr result IsNoDamage }
 {
     let mut page = Page::zeros();
@@ -265,7 +298,10 @@ pub fn count_table<P: Pages>(pages: &mut P) -> Result<u32, StoreFault>
         write_counters(pages, &page, &SpaceNumbers { tables, ..numbers })?;
         Ok(numbers.tables)
     } else {
-        Err(StoreFault::Damaged { page: 0, rule: 4 })
+        Err(StoreFault::Damaged {
+            page: SPACE_PAGE,
+            rule: SPACE_RULE,
+        })
     }
 }
 
@@ -279,9 +315,11 @@ pub fn table_count<P: Pages>(pages: &mut P) -> Result<u32, StoreFault>
     ensures kept { Continues P.Pages pages.old pages.new result }
     ensures contents { P.tells → OnOk result (P.contents pages.new ≡ P.contents pages.old) }
     ensures mini { OnOk result (P.mini pages.new ≡ P.mini pages.old) }
-    ensures count { P.tells → (s : Space) → IsSpace (P.shape pages.old).pages (P.contents pages.old) s
+    ensures count { P.tells → (s : Space)
+        → IsSpace (P.shape pages.old).pages (P.contents pages.old) s
         → IfOk result (λ n. n ≡ s.tables) }
-    ensures sound { P.tells → (s : Space) → IsSpace (P.shape pages.old).pages (P.contents pages.old) s
+    ensures sound { P.tells → (s : Space)
+        → IsSpace (P.shape pages.old).pages (P.contents pages.old) s
         → IfErr result IsNoDamage }
 {
     let mut page = Page::zeros();

@@ -12,7 +12,10 @@ ghost use Rattle.isp_format.specs.SpaceValues.{page_in};
 ghost use Rattle.isp_space.specs.Spaces.{IsSpace, NamesSpace, Space, fresh_header, free_pages, next_free, space_page, taken, without_first};
 
 use crate::space::{read_numbers, write_numbers};
-use isp_format::{FIRST_FRESH, FREE_KIND, Head, Page, PageNo, SpaceNumbers, head, set_head};
+use isp_format::{
+    CHAIN_RULE, FIRST_FRESH, FREE_KIND, Head, Page, PageNo, SPACE_PAGE, SpaceNumbers, head,
+    set_head,
+};
 use isp_page::{Pages, StoreFault, replace};
 
 /// Takes a page that is free: the first of the free chain, else the first never used. Its header says a free page with its
@@ -31,13 +34,17 @@ pub fn take_page<P: Pages>(pages: &mut P) -> Result<PageNo, StoreFault>
         (P.contents pages.old) (P.contents pages.new)) }
     ensures grown { IfOk result (λ p. Grows (0 ∷ p.0 ∷ []) (P.mini pages.old) (P.mini pages.new)) }
     ensures inside { IfOk result (λ p. p.0 < (P.shape pages.old).pages) }
-    ensures header { P.tells → IfOk result (λ p. header_of (page_of (P.contents pages.new) p.0) ≡ fresh_header p.0) }
-    ensures taken { P.tells → (s : Space) → IsSpace (P.shape pages.old).pages (P.contents pages.old) s
+    ensures header { P.tells → IfOk result (λ p.
+        header_of (page_of (P.contents pages.new) p.0) ≡ fresh_header p.0) }
+    ensures taken { P.tells → (s : Space)
+        → IsSpace (P.shape pages.old).pages (P.contents pages.old) s
         → 0 < free_pages (P.shape pages.old).pages s
         → OnOk result (IsSpace (P.shape pages.new).pages (P.contents pages.new) (taken s)) }
-    ensures page { P.tells → (s : Space) → IsSpace (P.shape pages.old).pages (P.contents pages.old) s
+    ensures page { P.tells → (s : Space)
+        → IsSpace (P.shape pages.old).pages (P.contents pages.old) s
         → 0 < free_pages (P.shape pages.old).pages s → IfOk result (λ p. p.0 ≡ next_free s) }
-    ensures sound { P.tells → (s : Space) → IsSpace (P.shape pages.old).pages (P.contents pages.old) s
+    ensures sound { P.tells → (s : Space)
+        → IsSpace (P.shape pages.old).pages (P.contents pages.old) s
         → 0 < free_pages (P.shape pages.old).pages s → IfErr result IsNoDamage }
     ensures names { IfErr result NamesSpace }
 {
@@ -62,12 +69,17 @@ fn next_page<P: Pages>(
     ensures mini { OnOk result (P.mini pages.new ≡ P.mini pages.old) }
     ensures inside { IfOk result (λ next. next.0.0 < (P.shape pages.old).pages) }
     ensures behind { IfOk result (λ next. first_fresh ≤ next.0.0) }
-    ensures page { P.tells → (s : Space) → IsSpace (P.shape pages.old).pages (P.contents pages.old) s
+    ensures page { P.tells → (s : Space)
+        → IsSpace (P.shape pages.old).pages (P.contents pages.old) s
         → page_in numbers.now ≡ space_page s → IfOk result (λ next. next.0.0 ≡ next_free s) }
-    ensures left { P.tells → (s : Space) → IsSpace (P.shape pages.old).pages (P.contents pages.old) s
-        → page_in numbers.now ≡ space_page s → IfOk result (λ next. page_in next.1 ≡ space_page (taken s)) }
-    ensures sound { P.tells → (s : Space) → IsSpace (P.shape pages.old).pages (P.contents pages.old) s
-        → page_in numbers.now ≡ space_page s → 0 < free_pages (P.shape pages.old).pages s → IfErr result IsNoDamage }
+    ensures left { P.tells → (s : Space)
+        → IsSpace (P.shape pages.old).pages (P.contents pages.old) s
+        → page_in numbers.now ≡ space_page s
+        → IfOk result (λ next. page_in next.1 ≡ space_page (taken s)) }
+    ensures sound { P.tells → (s : Space)
+        → IsSpace (P.shape pages.old).pages (P.contents pages.old) s
+        → page_in numbers.now ≡ space_page s
+        → 0 < free_pages (P.shape pages.old).pages s → IfErr result IsNoDamage }
     ensures names { IfErr result NamesSpace }
 {
     if numbers.free_count == 0 {
@@ -86,8 +98,10 @@ fn first_fresh<P: Pages>(
     requires to { numbers.now.fresh ≤ (P.shape pages.old).pages }
     ensures kept { Continues P.Pages pages.old pages.new result }
     ensures same { pages.new ≡ pages.old }
-    ensures next { IfOk result (λ next. (next.0.0 ≡ numbers.now.fresh) × (next.0.0 < (P.shape pages.old).pages)) }
-    ensures left { IfOk result (λ next. page_in next.1 ≡ (let n = page_in numbers.now in record n { fresh = n.fresh + 1 })) }
+    ensures next { IfOk result (λ next.
+        (next.0.0 ≡ numbers.now.fresh) × (next.0.0 < (P.shape pages.old).pages)) }
+    ensures left { IfOk result (λ next. page_in next.1
+        ≡ (let n = page_in numbers.now in record n { fresh = n.fresh + 1 })) }
     ensures refused { IfErr result (λ e. (P.shape pages.old).pages ≤ numbers.now.fresh) }
     ensures names { IfErr result NamesSpace }
 {
@@ -95,7 +109,10 @@ fn first_fresh<P: Pages>(
         let fresh = numbers.fresh + 1;
         Ok((PageNo(numbers.fresh), SpaceNumbers { fresh, ..*numbers }))
     } else {
-        Err(StoreFault::Damaged { page: 0, rule: 5 })
+        Err(StoreFault::Damaged {
+            page: SPACE_PAGE,
+            rule: CHAIN_RULE,
+        })
     }
 }
 
@@ -111,15 +128,21 @@ fn first_free<P: Pages>(
     ensures contents { P.tells → OnOk result (P.contents pages.new ≡ P.contents pages.old) }
     ensures mini { OnOk result (P.mini pages.new ≡ P.mini pages.old) }
     ensures next { IfOk result (λ next. next.0.0 ≡ numbers.now.free_head) }
-    ensures inside { IfOk result (λ next. (first_fresh ≤ next.0.0) × (next.0.0 < numbers.now.fresh)) }
+    ensures inside { IfOk result (λ next.
+        (first_fresh ≤ next.0.0) × (next.0.0 < numbers.now.fresh)) }
     ensures left { P.tells → IfOk result (λ next. page_in next.1
-        ≡ without_first (header_of (page_of (P.contents pages.old) numbers.now.free_head)).next (page_in numbers.now)) }
-    ensures sound { first_fresh ≤ numbers.now.free_head → numbers.now.free_head < numbers.now.fresh → IfErr result IsNoDamage }
+        ≡ without_first (header_of (page_of (P.contents pages.old) numbers.now.free_head)).next
+        (page_in numbers.now)) }
+    ensures sound { first_fresh ≤ numbers.now.free_head → numbers.now.free_head < numbers.now.fresh
+        → IfErr result IsNoDamage }
     ensures names { IfErr result NamesSpace }
 {
     let first = numbers.free_head;
     if !is_inside(first, numbers.fresh) {
-        return Err(StoreFault::Damaged { page: 0, rule: 5 });
+        return Err(StoreFault::Damaged {
+            page: SPACE_PAGE,
+            rule: CHAIN_RULE,
+        });
     }
     let mut page = Page::zeros();
     pages.read(PageNo(first), &mut page)?;
@@ -146,9 +169,11 @@ fn clear_head<P: Pages>(pages: &mut P, p: PageNo) -> Result<(), StoreFault>
     requires room { HasRoom p.0 (P.mini pages.old) }
     ensures kept { Continues P.Pages pages.old pages.new result }
     ensures sound { IfErr result IsNoDamage }
-    ensures others { P.tells → OnOk result (KeepsPages (is_page p.0) (P.contents pages.old) (P.contents pages.new)) }
+    ensures others { P.tells → OnOk result
+        (KeepsPages (is_page p.0) (P.contents pages.old) (P.contents pages.new)) }
     ensures grown { OnOk result (Grows (p.0 ∷ []) (P.mini pages.old) (P.mini pages.new)) }
-    ensures header { P.tells → OnOk result (header_of (page_of (P.contents pages.new) p.0) ≡ fresh_header p.0) }
+    ensures header { P.tells → OnOk result
+        (header_of (page_of (P.contents pages.new) p.0) ≡ fresh_header p.0) }
 {
     let mut page = Page::zeros();
     pages.read(p, &mut page)?;

@@ -8,7 +8,7 @@ use Rattle.isp_disk.specs.declared.world.World.{Ghosts}
 use Rattle.isp_format.specs.Contents.{StandsFor, ranges_of}
 use Rattle.isp_format.specs.Control.{IsControl, fanout_in, pages_in}
 use Rattle.isp_format.specs.Doublewrite.{area, doublewrite_gate, laid}
-use Rattle.isp_format.specs.Log.{IsLog, Transaction, log_bytes, log_of, log_place}
+use Rattle.isp_format.specs.Log.{IsLog, Transaction, batch_head, log_bytes, log_of, log_place}
 use Rattle.isp_format.specs.Ranges.{Contents, Range, SameIn, page_of, puts}
 use Rattle.isp_stable.specs.declared.stable.Stable.{Stable}
 
@@ -62,7 +62,7 @@ module _ {W : Type 0} (g : Ghosts W) where
 
 -- the log has room for a batch whose body has so many bytes, and for the gate behind it
 abbrev pub HasRoomFor : {W : Type 0} → Stable W → ℕ → Type 0
-HasRoomFor s size = s.log.end + 5 + size < log_bytes
+HasRoomFor s size = s.log.end + batch_head + size < log_bytes
 
 -- the log is empty
 abbrev pub IsLogEmpty : {W : Type 0} → Stable W → Type 0

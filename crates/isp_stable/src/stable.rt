@@ -4,7 +4,7 @@ ghost use Rattle.isp_disk.specs.Moments.{Agree, Quiet, slice};
 ghost use Rattle.isp_disk.specs.Phases.{OnlyReads};
 ghost use Rattle.isp_doublewrite.specs.Batches.{FitsBatch, number_of, whole_page};
 ghost use Rattle.isp_format.specs.Contents.{ranges_of};
-ghost use Rattle.isp_format.specs.Log.{IsBody, Transaction, log_of};
+ghost use Rattle.isp_format.specs.Log.{IsBody, Transaction, batch_head, log_of};
 ghost use Rattle.isp_format.specs.Ranges.{Range, cover, page_bytes, page_of, puts};
 ghost use Rattle.isp_redo.specs.Places.{IsAt, IsFurther, LiesInPage, TakesRange, place_of};
 ghost use Rattle.isp_stable.specs.File.{HasRoomFor, HasWritten, IsFile, KeepsStable, LaysOnly, MakesLog, PrintsBeside, ReadsStable, StandsOnly, flushed, placed};
@@ -154,7 +154,7 @@ impl<W: World> Stable<W> {
             ⊎ (contents ≡ puts ranges (flushed W.World self.old file.batches)))
             self.old self.new result }
         ensures placed { W.tells → placed W.World self.new ≡ placed W.World self.old }
-        ensures end { OnOk result (self.new.log.end ≡ self.old.log.end + 5 + length body.now) }
+        ensures end { OnOk result (self.new.log.end ≡ self.old.log.end + batch_head + length body.now) }
         ensures kept { KeepsStable W.World self.old self.new result }
     {
         self.log.append(&mut self.world, body)?;

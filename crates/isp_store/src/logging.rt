@@ -1,6 +1,6 @@
 //! What a finished mini-transaction leaves to the log, and its pages unpinned.
 ghost use Rattle.std.specs.Prelude.{◌≡◌, ℕ, ◌-◌, ◌+◌, ◌≤◌, ◌++◌, [], false, All, Some, drop, length, take};
-ghost use Rattle.isp_format.specs.Log.{range_bytes, transaction_bytes};
+ghost use Rattle.isp_format.specs.Log.{range_bytes, range_head, transaction_bytes};
 ghost use Rattle.isp_format.specs.Ranges.{Contents};
 ghost use Rattle.isp_frames.specs.Cached.{with_pool};
 ghost use Rattle.isp_frames.specs.Held.{AreApart, now_over};
@@ -33,7 +33,7 @@ fn spell_range(pool: &Pool, extent: &Extent, body: &mut Body)
     requires apart { AreApart pool.now.frames }
     requires pinned { IsPinnedIn pool.now extent.now }
     requires extent { IsExtent extent.now }
-    requires room { length body.old + 8 + (extent.now.end - extent.now.at) ≤ largest_body }
+    requires room { length body.old + range_head + (extent.now.end - extent.now.at) ≤ largest_body }
     ensures { (placed : Contents) → body.new
         ≡ body.old ++ range_bytes (range_in (now_over pool.now.frames placed) extent.now) }
 {

@@ -3,6 +3,7 @@ ghost use Rattle.std.specs.Prelude.{◌≡◌, ◌≢◌, ◌+◌, ◌*◌, ◌<
 ghost use Rattle.isp_disk.specs.Moments.{Agree, either, put};
 ghost use Rattle.isp_disk.specs.Phases.{EndsQuiet};
 ghost use Rattle.isp_format.specs.Control.{IsFanout, IsPages, made_gate};
+ghost use Rattle.isp_format.specs.Doublewrite.{most_copies};
 ghost use Rattle.isp_format.specs.Ranges.{page_bytes, page_of};
 ghost use Rattle.isp_making.specs.Making.{IsMade, LeavesMaking};
 ghost use Rattle.isp_making.specs.Places.{file_places, made_place};
@@ -11,6 +12,7 @@ ghost use Rattle.isp_opening.specs.Opening.{KeepsWorld};
 ghost use Rattle.isp_page.specs.Calls.{Continued, Flushes, PrintsPiece};
 ghost use Rattle.isp_page.specs.State.{HasRoom, just_begun, with_change};
 ghost use Rattle.isp_page.specs.Steps.{IsNoDamage, done};
+ghost use Rattle.isp_pool.specs.Frames.{most_frames};
 ghost use Rattle.isp_store.specs.Calls.{BringsInPage, ChangesHeld, CleansOldest, ContinuesWhole, EndsChanges, FlushesWhole, HoldsSame, IsAllInPlace, IsStill, LeavesHeld, LeavesWhole, LogsChanges, MakesWhole, StandsNow};
 ghost use Rattle.isp_store.specs.Starting.{IsFresh, IsStarted, StartRefuses, started_world};
 ghost use Rattle.isp_store.specs.State.{clock, contents, dirty, disk_faults, left_since, may_leave, mini, print_faults, shape, store, printed};
@@ -75,8 +77,8 @@ impl<W: World> Store<W> {
     ///
     /// Memory, and then nothing was done; Disk; or Damaged, with page 0 and the first rule that the file breaks.
     pub fn start(alloc: Global, world: W, frames: usize) -> Result<Store<W>, (Fault, W)>
-        requires least { 64 ≤ frames }
-        requires most { frames ≤ 4096 }
+        requires least { most_copies ≤ frames }
+        requires most { frames ≤ most_frames }
         ensures started { IfOk result (λ s. IsStarted W.World world s) }
         ensures fresh { IfOk result (λ s. IsFresh W.World world frames s) }
         ensures refused { IfErr result (λ e. StartRefuses W.World world e.0 e.1) }
