@@ -1,129 +1,199 @@
--- What the calls that change a tree of one leaf make of it, and of the space.
-use Rattle.std.proofs.Common.{◌≡◌, ℕ, suc, ◌+◌, ◌<◌, ◌≤◌, ◌==◌, ℤ, ◌||◌, Bool, true, false, List, [], ◌∷◌, ◌++◌, length, Option, Some, None, refl, sym, ◌∙◌, ap, subst, arith, cond}
-use Rattle.std.specs.Prelude.{All, IfSome, is_none, not}
-use Rattle.std.specs.Option.{option_map}
-use Rattle.std.proofs.lemmas.List.{append-nil}
+-- What the calls that change a tree make of it, and of the space.
+use Rattle.std.proofs.Common.{◌≡◌, ℕ, zero, suc, ◌+◌, ◌*◌, ◌<◌, ◌≤◌, ◌==◌, ℤ, ◌||◌, Bool, true, false, List, [], ◌∷◌, ◌++◌, drop, length, take, Option, Some, None, refl, sym, ◌∙◌, ap, subst, arith, cond, if◌then◌else◌}
+use Rattle.std.specs.Prelude.{All, IfSome, is_none, nat_lt, not}
+use Rattle.std.proofs.lemmas.Bool.Decides.{nat_tests}
 use Rattle.isp_base.specs.Lists.{times}
 use Rattle.isp_format.specs.Header.{Header, header_of}
 use Rattle.isp_format.specs.Leaf.{Stored}
 use Rattle.isp_format.specs.Ranges.{Contents, page_of}
 use Rattle.isp_format.specs.Space.{IsSpacePage}
+use Rattle.isp_format.specs.declared.page.Page.{Page}
 use Rattle.isp_format.proofs.Places.{not_second}
 use Rattle.isp_page.specs.State.{is_among}
 use Rattle.isp_page.specs.Touched.{KeepsPages, is_page}
-use Rattle.isp_format.specs.declared.page.Page.{Page}
 use Rattle.isp_space.specs.Spaces.{IsSpace, Space, free_pages, next_free, next_of, space_page, space_pages, taken}
-use Rattle.isp_space.proofs.TakingLaws.{page_0_stays, taken_space}
 use Rattle.isp_space.proofs.SpaceLaws.{chain_same}
+use Rattle.isp_space.proofs.TakingLaws.{page_0_stays, taken_space}
+use Rattle.isp_cells.specs.LeafPages.{IsLeaf, leaf_header}
+use Rattle.isp_cells.specs.Rows.{bytes_in, exchanged, find, new_row, with_put}
+use Rattle.isp_cells.proofs.CellLaws.{rows_length}
+use Rattle.isp_cells.proofs.RowLaws.{HasKey, found_key}
+use Rattle.isp_levels.specs.Dividing.{divided, first_key, halves, is_divided}
+use Rattle.isp_levels.specs.Edits.{ChangesAt, IsAt, IsOfKey}
+use Rattle.isp_levels.specs.Levels.{ArePages, IsTreeOf, Ranged, TreeLeaf, first_page, leaf_pages, level_pages}
+use Rattle.isp_levels.proofs.AmongLaws.{exchanged_at, one_changed}
+use Rattle.isp_levels.proofs.PageLaws.{AreApart, leaf_pages_append, pages_edited, times_append, times_itself, tree_edited, zero_absent}
+use Rattle.isp_levels.proofs.RangeLaws.{ranged_exchanged}
 use Rattle.isp_clustered.specs.Calls.{IsCreated}
+use Rattle.isp_clustered.specs.Found.{IsFoundLeaf}
 use Rattle.isp_clustered.specs.Puts.{IsApart, IsBeside, IsPut}
-use Rattle.isp_clustered.specs.Rows.{Rises, find, marked_at, new_row, rewritten, with_mark, with_put, with_row, without}
-use Rattle.isp_clustered.specs.Trees.{IsEdited, IsLeaf, IsTree, Tree, leaf_header, least_key, on_leaves, one_leaf, pages_of, rows_of}
-use Rattle.isp_clustered.proofs.RowLaws.{HasKey, exchanged_rises, found_key}
-use Rattle.isp_clustered.proofs.TreeLaws.{leaf_tree, pages_are, rows_are, tree_rises}
+use Rattle.isp_clustered.specs.Trees.{IsEdited, IsTree, Tree, one_leaf, pages_of}
+use Rattle.isp_clustered.proofs.TreeLaws.{leaf_tree}
 
 pub not_false : (b : Bool) → not b ≡ false → b ≡ true
 not_false true is = refl
 not_false false is = cc
 
--- ---- rows are exchanged on the one leaf
+-- ---- rows are exchanged on one leaf
 
-pub edited : (pages pages_now : ℕ) (old new : Contents) (table root : ℕ) (tree : Tree) (change : List Stored → List Stored)
-    → IsTree pages old table root tree → pages_now ≡ pages → IsLeaf (page_of new root) table root 0 (change (rows_of tree)) → Rises (change (rows_of tree))
-    → KeepsPages (λ other. is_among other (root ∷ [])) old new → IsEdited pages_now old new table root tree change
-edited pages pages_now old new table root tree change is shape leaf rises keeps =
-    let rows = rows_are root is.rows tree is.is in
-    let here : IsLeaf (page_of new root) table root 0 (change is.rows) = subst (λ (l : List Stored). IsLeaf (page_of new root) table root 0 (change l)) rows leaf in
-    let risen : Rises (change is.rows) = subst (λ (l : List Stored). Rises (change l)) rows rises in
+has_key : (key : ℤ) (o : Option Stored) → IsOfKey key o → HasKey key o
+has_key key None is = tt
+has_key key (Some s) is = is
+
+made_key : (key : ℤ) (rows : List Stored) (change : List Stored → List Stored) (changes : ChangesAt key change) (o : Option Stored) → find key rows ≡ o → HasKey key (changes.made o)
+made_key key rows change changes None is = subst (HasKey key) (sym changes.none) tt
+made_key key rows change changes (Some s) is = has_key key (changes.made (Some s)) (changes.keyed s (found_key key rows s is))
+
+-- the tree with other rows on the leaf of a key
+pub replaced : (pages pages_now : ℕ) (old new : Contents) (table root : ℕ) (tree : Tree) (key : ℤ) (leaf : TreeLeaf) (row : Option Stored) (ps : List ℕ) (rows : List Stored) → IsTree pages old table root tree → pages_now ≡ pages → (at : IsAt key tree.leaves leaf) → HasKey key row
+    → rows ≡ exchanged key row leaf.rows → IsLeaf (page_of new leaf.page) table leaf.page (first_page at.after) rows → AreApart pages leaf.page ps → KeepsPages (λ other. is_among other ps) old new
+    → IsTree pages_now new table root (record { leaves = at.before ++ (record leaf { rows = rows } ∷ at.after); inner = tree.inner })
+replaced pages pages_now old new table root tree key leaf row ps rows is shape at has rows_are there apart keeps =
+    let was : IsTreeOf pages old table root is.levels (at.before ++ (leaf ∷ at.after)) = subst (λ (l : List TreeLeaf). IsTreeOf pages old table root is.levels l) at.is is.levelled in
+    let ranged : Ranged (at.before ++ (record leaf { rows = exchanged key row leaf.rows } ∷ at.after)) = ranged_exchanged at.before at.after leaf key row has at.near at.under was.levelled.ranged in
+    let now = subst (λ (l : List Stored). Ranged (at.before ++ (record leaf { rows = l } ∷ at.after))) (sym rows_are) ranged in
     record {
-      is_tree = subst (λ (t : Tree). IsTree pages_now new table root (on_leaves change t)) (sym is.is) (leaf_tree pages_now new table root (change is.rows) here risen is.from (subst (λ (n : ℕ). root < n) (sym shape) is.to));
-      others = subst (λ (l : List ℕ). KeepsPages (λ other. is_among other l) old new) (sym (pages_are root is.rows tree is.is)) keeps;
+      levels = is.levels;
+      levelled = subst (λ (n : ℕ). IsTreeOf n new table root is.levels (at.before ++ (record leaf { rows = rows } ∷ at.after))) (sym shape)
+          (tree_edited pages old new table root is.levels at.before at.after leaf (record leaf { rows = rows }) ps was refl refl now there apart keeps);
+      inner_is = is.inner_is;
+    }
+
+is_one : (page : ℕ) (pages : ℕ) → AreApart pages page (page ∷ [])
+is_one page pages qs none are = (none, tt)
+
+not_leaf : (q : ℕ) (leaf : TreeLeaf) (before after : List TreeLeaf) (inner : List ℕ) → is_among q (leaf_pages (before ++ (leaf ∷ after)) ++ inner) ≡ false → is_among q (leaf.page ∷ []) ≡ false
+not_leaf q leaf [] after inner out = by (leaf.page == q) (is_among q (leaf_pages after ++ inner)) out
+  where
+    by : (a b : Bool) → (a || b) ≡ false → (a || false) ≡ false
+    by true b bad = bad
+    by false b out = refl
+not_leaf q leaf (x ∷ before) after inner out = not_leaf q leaf before after inner (by (x.page == q) (is_among q (leaf_pages (before ++ (leaf ∷ after)) ++ inner)) out)
+  where
+    by : (a b : Bool) → (a || b) ≡ false → b ≡ false
+    by true b bad = absurd (let no : true ≡ false = bad in cc)
+    by false b out = out
+
+pub edited : (pages pages_now : ℕ) (old new : Contents) (table root : ℕ) (tree : Tree) (key : ℤ) (change : List Stored → List Stored) (bytes : List ℕ) (page used : ℕ) → IsTree pages old table root tree → pages_now ≡ pages → (f : IsFoundLeaf bytes page used table key tree) → ChangesAt key change
+    → IsLeaf (page_of new page) table page (first_page f.at.after) (change f.leaf.rows) → KeepsPages (λ other. is_among other (page ∷ [])) old new → IsEdited pages_now old new table root tree change
+edited pages pages_now old new table root tree key change bytes page used is shape f changes there keeps =
+    let leaf = f.leaf in
+    let at = f.at in
+    let here : IsLeaf (page_of new leaf.page) table leaf.page (first_page at.after) (change leaf.rows) = subst (λ (p : ℕ). IsLeaf (page_of new p) table p (first_page at.after) (change leaf.rows)) (sym f.page_is) there in
+    let kept : KeepsPages (λ other. is_among other (leaf.page ∷ [])) old new = subst (λ (p : ℕ). KeepsPages (λ other. is_among other (p ∷ [])) old new) (sym f.page_is) keeps in
+    let now = replaced pages pages_now old new table root tree key leaf (changes.made (find key leaf.rows)) (leaf.page ∷ []) (change leaf.rows) is shape at (made_key key leaf.rows change changes (find key leaf.rows) refl) (changes.is leaf.rows) here (is_one leaf.page pages) kept in
+    record {
+      is_tree = subst (λ (l : List TreeLeaf). IsTree pages_now new table root (record { leaves = l; inner = tree.inner })) (sym (one_changed key change tree.leaves leaf at changes is.levelled.levelled.ranged)) now;
+      others = λ q out. kept q (not_leaf q leaf at.before at.after tree.inner (subst (λ (l : List TreeLeaf). is_among q (leaf_pages l ++ tree.inner) ≡ false) at.is out));
     }
 
 -- what stands on the page where it is exchanged for an edited one
-pub edited_page : (edit : Option Page) (bytes : List ℕ) (table root : ℕ) (rows : List Stored) → is_none edit ≡ false → IfSome edit (λ page. IsLeaf page.bytes table root 0 rows) → IfSome edit (λ page. bytes ≡ page.bytes) → IsLeaf bytes table root 0 rows
-edited_page None bytes table root rows some leaf is = cc
-edited_page (Some page) bytes table root rows some leaf is = subst (λ (b : List ℕ). IsLeaf b table root 0 rows) (sym is) leaf
-
--- a row that is written, or marked, has the key of the row that was there
-written_key : (key : ℤ) (row : List ℕ) (marked : Bool) (rows : List Stored) (o : Option Stored) → find key rows ≡ o → HasKey key (option_map (rewritten row marked) o)
-written_key key row marked rows None is = tt
-written_key key row marked rows (Some s) is = found_key key rows s is
-
-pub written_rises : (key : ℤ) (row : List ℕ) (marked : Bool) (rows : List Stored) → Rises rows → Rises (with_row key row marked rows)
-written_rises key row marked rows rises = exchanged_rises key (option_map (rewritten row marked) (find key rows)) rows (written_key key row marked rows (find key rows) refl) rises
-
-marked_key : (key : ℤ) (rows : List Stored) (o : Option Stored) → find key rows ≡ o → HasKey key (option_map with_mark o)
-marked_key key rows None is = tt
-marked_key key rows (Some s) is = found_key key rows s is
-
-pub marked_rises : (key : ℤ) (rows : List Stored) → Rises rows → Rises (marked_at key rows)
-marked_rises key rows rises = exchanged_rises key (option_map with_mark (find key rows)) rows (marked_key key rows (find key rows) refl) rises
-
-pub dropped_rises : (key : ℤ) (rows : List Stored) → Rises rows → Rises (without key rows)
-dropped_rises key rows rises = exchanged_rises key None rows tt rises
+pub edited_page : (edit : Option Page) (bytes : List ℕ) (table page next : ℕ) (rows : List Stored) → is_none edit ≡ false → IfSome edit (λ new. IsLeaf new.bytes table page next rows) → IfSome edit (λ new. bytes ≡ new.bytes) → IsLeaf bytes table page next rows
+edited_page None bytes table page next rows some leaf is = cc
+edited_page (Some new) bytes table page next rows some leaf is = subst (λ (b : List ℕ). IsLeaf b table page next rows) (sym is) leaf
 
 -- ---- a row is put
 
-apart : (root : ℕ) (xs : List ℕ) → ((page : ℕ) → times page (root ∷ xs) ≤ 1) → All (λ other. is_page root other ≡ false) xs
-apart root [] once = λ k d h. absurd (omega (arith, h))
-apart root (x ∷ xs) once = cons x xs (by (x == root) refl) (apart root xs (λ page. fewer page (once page)))
+apart : (root : ℕ) (xs : List ℕ) → times root xs ≡ 0 → All (λ other. is_page root other ≡ false) xs
+apart root [] none = λ k d h. absurd (omega (arith, h))
+apart root (x ∷ xs) none = cons x xs (by (x == root) refl none) (apart root xs (let rest : times root (x ∷ xs) ≡ 0 = none in omega (arith, rest)))
   where
-    by : (b : Bool) → (x == root) ≡ b → b ≡ false
-    by false is = refl
-    by true is =
-        let same : (root == root) ≡ true = grind arith in
-        let most = once root in
-        let first : ◌≡◌ {A = ℕ} (cond (root == root) 1 0) 1 = ap (λ (b : Bool). let n : ℕ = cond b 1 0 in n) same in
-        let second : ◌≡◌ {A = ℕ} (cond (x == root) 1 0) 1 = ap (λ (b : Bool). let n : ℕ = cond b 1 0 in n) is in
-        absurd (omega (arith, most, first, second))
-
-    fewer : (page : ℕ) → times page (root ∷ x ∷ xs) ≤ 1 → times page (root ∷ xs) ≤ 1
-    fewer page most = omega (arith, most)
+    by : (b : Bool) → (x == root) ≡ b → cond b 1 0 + times root xs ≡ 0 → b ≡ false
+    by false is none = refl
+    by true is none = absurd (omega (arith, none))
 
     cons : (x : ℕ) (xs : List ℕ) → is_page root x ≡ false → All (λ other. is_page root other ≡ false) xs → All (λ other. is_page root other ≡ false) (x ∷ xs)
     cons x xs first rest = search (arith, first, rest)
 
-pub apart_of : (pages : ℕ) (contents : Contents) (table root : ℕ) (tree : Tree) (s : Space) → IsTree pages contents table root tree → IsBeside tree s → IsApart root s
-apart_of pages contents table root tree s is beside =
-    let once : (page : ℕ) → times page ((root ∷ []) ++ space_pages s) ≤ 1 = λ page. subst (λ (l : List ℕ). times page (l ++ space_pages s) ≤ 1) (pages_are root is.rows tree is.is) (beside.once page) in
-    apart root (space_pages s) once
+-- a tree's page is none of the space
+pub page_apart : (leaf : TreeLeaf) (tree : Tree) (s : Space) (key : ℤ) → IsAt key tree.leaves leaf → IsBeside tree s → IsApart leaf.page s
+page_apart leaf tree s key at beside =
+    let most = beside.once leaf.page in
+    let one = times_append leaf.page (pages_of tree) (space_pages s) in
+    let two = times_append leaf.page (leaf_pages tree.leaves) tree.inner in
+    let three = ap (λ (l : List TreeLeaf). times leaf.page (leaf_pages l)) at.is in
+    let four = ap (times leaf.page) (leaf_pages_append at.before (leaf ∷ at.after)) in
+    let five = times_append leaf.page (leaf_pages at.before) (leaf.page ∷ leaf_pages at.after) in
+    let six = times_itself leaf.page (leaf_pages at.after) in
+    apart leaf.page (space_pages s) (omega (arith, most, one, two, three, four, five, six))
 
--- the tree once a row is put
-pub put_tree : (pages pages_now : ℕ) (old new : Contents) (table root : ℕ) (tree : Tree) (s : Space) (key : ℤ) (row : List ℕ) → IsTree pages old table root tree → pages_now ≡ pages
-    → IsLeaf (page_of new root) table root 0 (with_put key row (rows_of tree)) → IsSpace pages_now new (record s { bytes = s.bytes + (13 + length row) })
-    → KeepsPages (λ other. is_among other (0 ∷ root ∷ [])) old new → IsPut pages_now old new table root key row tree s
-put_tree pages pages_now old new table root tree s key row is shape leaf space keeps =
-    let rises : Rises (with_put key row (rows_of tree)) = exchanged_rises key (Some (new_row key row)) (rows_of tree) refl (tree_rises pages old table root tree is) in
-    let rows = rows_are root is.rows tree is.is in
-    let one = pages_are root is.rows tree is.is in
-    let now : Tree = one_leaf root (with_put key row (rows_of tree)) in
+-- a leaf's page is none of those that every file has
+pub page_from : (pages : ℕ) (contents : Contents) (table root : ℕ) (tree : Tree) (key : ℤ) (bytes : List ℕ) (page used : ℕ) → IsTree pages contents table root tree → IsFoundLeaf bytes page used table key tree → 16 ≤ page
+page_from pages contents table root tree key bytes page used is f =
+    subst (λ (n : ℕ). 16 ≤ n) f.page_is (by f.at.before f.at.after f.leaf (subst (λ (l : List TreeLeaf). ArePages pages (leaf_pages l ++ level_pages is.levels)) f.at.is is.levelled.inside))
+  where
+    by : (before after : List TreeLeaf) (leaf : TreeLeaf) → ArePages pages (leaf_pages (before ++ (leaf ∷ after)) ++ level_pages is.levels) → 16 ≤ leaf.page
+    by [] after leaf are = are.0
+    by (x ∷ before) after leaf are = by before after leaf are.2
+
+zero_and : (page pages : ℕ) → AreApart pages page (0 ∷ page ∷ [])
+zero_and page pages qs none are = (zero_absent pages qs are, (none, tt))
+
+not_divided : (bytes : List ℕ) (table own next : ℕ) (rows : List Stored) → IsLeaf bytes table own next rows → is_divided rows ≡ false
+not_divided bytes table own next rows leaf =
+    let within = leaf.page.within in
+    let long = rows_length rows in
+    small (bytes_in rows) (omega (arith, within, long))
+  where
+    small : (n : ℕ) → n ≤ 4032 → nat_lt 4032 n ≡ false
+    small n few = grind (arith, nat_tests, few)
+
+whole_leaf : (page : ℕ) (leaf : TreeLeaf) → is_divided leaf.rows ≡ false → divided page leaf ≡ leaf ∷ []
+whole_leaf page leaf is = by (is_divided leaf.rows) is
+  where
+    left : TreeLeaf
+    left = record leaf { rows = take (halves leaf.rows) leaf.rows }
+
+    right : TreeLeaf
+    right = record { page = page; low = first_key (drop (halves leaf.rows) leaf.rows); rows = drop (halves leaf.rows) leaf.rows }
+
+    by : (b : Bool) → b ≡ false → (if b then left ∷ right ∷ [] else leaf ∷ []) ≡ leaf ∷ []
+    by true is = cc
+    by false is = refl
+
+among_zero : (q page : ℕ) (b : Bool) → (q == 0) ≡ b → (b || is_among q (page ∷ [])) ≡ false → is_among q (0 ∷ page ∷ []) ≡ false
+among_zero q page true is bad = cc
+among_zero q page false is out = let zero : (0 == q) ≡ false = grind (arith, is) in ap (λ (b : Bool). b || is_among q (page ∷ [])) zero ∙ out
+
+-- the tree once a row is put where it has room
+pub put_tree : (pages pages_now : ℕ) (old new : Contents) (table root : ℕ) (tree : Tree) (s : Space) (key : ℤ) (row bytes : List ℕ) (page used : ℕ) → IsTree pages old table root tree → pages_now ≡ pages → (f : IsFoundLeaf bytes page used table key tree)
+    → IsLeaf (page_of new page) table page (first_page f.at.after) (with_put key row f.leaf.rows) → IsSpace pages_now new (record s { bytes = s.bytes + (13 + length row) })
+    → KeepsPages (λ other. is_among other (0 ∷ page ∷ [])) old new → IsPut pages_now old new table root key row tree s
+put_tree pages pages_now old new table root tree s key row bytes page used is shape f there space keeps =
+    let leaf = f.leaf in
+    let at = f.at in
+    let rows = with_put key row leaf.rows in
+    let here : IsLeaf (page_of new leaf.page) table leaf.page (first_page at.after) rows = subst (λ (p : ℕ). IsLeaf (page_of new p) table p (first_page at.after) rows) (sym f.page_is) there in
+    let kept : KeepsPages (λ other. is_among other (0 ∷ leaf.page ∷ [])) old new = subst (λ (p : ℕ). KeepsPages (λ other. is_among other (0 ∷ p ∷ [])) old new) (sym f.page_is) keeps in
+    let ranged = is.levelled.levelled.ranged in
+    let same : leaf_pages (at.before ++ (record leaf { rows = rows } ∷ at.after)) ≡ leaf_pages tree.leaves = pages_edited at.before at.after leaf (record leaf { rows = rows }) refl ∙ ap leaf_pages (sym at.is) in
     record {
-      after = now;
+      after = record { leaves = at.before ++ (record leaf { rows = rows } ∷ at.after); inner = tree.inner };
       put = record {
-        rows = append-nil (with_put key row (rows_of tree));
+        rows = sym (exchanged_at key (Some (new_row key row)) tree.leaves leaf at ranged);
         moved = None;
-        left = [];
-        mid = record { page = root; low = least_key; rows = rows_of tree };
-        right = [];
-        stood = ap (λ (t : Tree). t.leaves) is.is ∙ (λ i. record { page = root; low = least_key; rows = sym rows i } ∷ []);
-        divided = None;
-        stand = refl;
+        left = at.before;
+        mid = leaf;
+        right = at.after;
+        stood = at.is;
+        page = page;
+        stand = ap (λ (l : List TreeLeaf). at.before ++ (l ++ at.after)) (sym (whole_leaf page (record leaf { rows = rows }) (not_divided (page_of new leaf.page) table leaf.page (first_page at.after) rows here)));
       };
-      is_tree = leaf_tree pages_now new table root (with_put key row (rows_of tree)) leaf rises is.from (subst (λ (n : ℕ). root < n) (sym shape) is.to);
+      is_tree = replaced pages pages_now old new table root tree key leaf (Some (new_row key row)) (0 ∷ leaf.page ∷ []) rows is shape at refl refl here (zero_and leaf.page pages) kept;
       count = 0;
       few = omega arith;
-      pages_are = λ page. ap (times page) (sym one) ∙ more (times page (pages_of tree));
+      pages_are = λ q. ap (λ (l : List ℕ). times q (l ++ tree.inner)) same ∙ more (times q (pages_of tree));
       is_space = space;
-      others = λ other out. keeps other (both other (is_page 0 other) refl out);
+      others = λ q out. kept q (among_zero q leaf.page (q == 0) refl (either q (q == 0) (is_among q (pages_of (record { leaves = at.before ++ (record leaf { rows = rows } ∷ at.after); inner = tree.inner }))) out
+          (λ free. not_leaf q (record leaf { rows = rows }) at.before at.after tree.inner free)));
     }
   where
     more : (n : ℕ) → n ≡ n + 0
     more n = omega arith
 
-    both : (other : ℕ) (b : Bool) → (other == 0) ≡ b → (b || is_among other (root ∷ [])) ≡ false → is_among other (0 ∷ root ∷ []) ≡ false
-    both other true is bad = cc
-    both other false is out = let zero : (0 == other) ≡ false = grind (arith, is) in ap (λ (b : Bool). b || is_among other (root ∷ [])) zero ∙ out
+    either : {c : Bool} (q : ℕ) (a b : Bool) → (a || b) ≡ false → (b ≡ false → c ≡ false) → (a || c) ≡ false
+    either q true b bad more = bad
+    either q false b out more = more out
 
 -- a space beside a page stays where that page alone is changed
 pub space_beside : (pages : ℕ) (old new : Contents) (root : ℕ) (s : Space) → KeepsPages (is_page root) old new → IsApart root s → IsSpace pages old s → IsSpace pages new s

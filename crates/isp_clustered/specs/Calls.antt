@@ -15,7 +15,9 @@ use Rattle.isp_page.specs.declared.pages.Pages.{Ghosts}
 use Rattle.isp_space.specs.Changes.{ChangesBy}
 use Rattle.isp_space.specs.Spaces.{IsSpace, NamesSpace, Space, next_free, taken}
 use Rattle.isp_clustered.specs.Puts.{CanPut, IsPut}
-use Rattle.isp_clustered.specs.Trees.{IsEdited, IsTree, SaysTree, Tree, one_leaf}
+use Rattle.isp_clustered.specs.Trees.{IsEdited, IsTree, Tree, one_leaf}
+use Rattle.isp_levels.specs.Walks.{NamesAny}
+use Rattle.isp_cells.specs.LeafPages.{SaysTree}
 use Rattle.isp_clustered.specs.declared.kept.Leaf.{Leaf}
 
 -- the contents now have an empty tree of that table on the page that was free next, and other pages than it and page 0 are as before
@@ -45,33 +47,27 @@ Puts g old new table root key row tree s = IsPut (g.shape new).pages (g.contents
 abbrev pub Creates : {S : Type 0} → Ghosts S → S → S → ℕ → Space → ℕ → Type 0
 Creates g old new table s page = IsCreated (g.shape new).pages (g.contents old) (g.contents new) table s page
 
--- a damaged page that is named is the tree's, and breaks the rule of clustered trees
-abbrev pub NamesRoot : ℕ → StoreFault → Type 0
-NamesRoot root Disk = ⊤
-NamesRoot root Print = ⊤
-NamesRoot root (Damaged page rule) = (page ≡ root) × (rule ≡ 7)
+-- a damaged page that is named is one of the file and breaks the rule of clustered trees, or one of the space
+abbrev pub NamesTreeOrSpace : ℕ → StoreFault → Type 0
+NamesTreeOrSpace pages Disk = ⊤
+NamesTreeOrSpace pages Print = ⊤
+NamesTreeOrSpace pages (Damaged page rule) = ((page < pages) × (rule ≡ 7)) ⊎ NamesSpace (Damaged page rule)
 
--- the same, or a rule of the space
-abbrev pub NamesRootOrSpace : ℕ → StoreFault → Type 0
-NamesRootOrSpace root Disk = ⊤
-NamesRootOrSpace root Print = ⊤
-NamesRootOrSpace root (Damaged page rule) = ((page ≡ root) × (rule ≡ 7)) ⊎ NamesSpace (Damaged page rule)
-
--- it is a page of the file, and breaks that rule
+-- the same of one that may lack memory
 abbrev pub NamesAnyOrLacks : ℕ → Fault → Type 0
 NamesAnyOrLacks pages (Store Disk) = ⊤
 NamesAnyOrLacks pages (Store Print) = ⊤
 NamesAnyOrLacks pages (Store (Damaged page rule)) = (page < pages) × (rule ≡ 7)
 NamesAnyOrLacks pages Memory = ⊤
 
--- A call that reads a tree on that page, which says that it is one where the call answers; and names such pages where they
--- aren't what they should be.
+-- A call that reads a tree on that page, which says that it is one where the call answers; and names pages of the file where
+-- they aren't what they should be.
 pub record ReadsTree {S T : Type 0} (g : Ghosts S) (root : ℕ) (old new : S) (result : Result T StoreFault) : Type 0 where
   pub kept : Continues g old new result
   pub contents : g.tells → OnOk result (g.contents new ≡ g.contents old)
   pub mini : OnOk result (g.mini new ≡ g.mini old)
   pub says : g.tells → OnOk result (SaysTree root (header_of (page_of (g.contents old) root)))
-  pub names : IfErr result (NamesRoot root)
+  pub names : IfErr result (NamesAny (g.shape old).pages)
 
 -- the same of one that takes memory
 pub record ReadsTreeOrLacks {S T : Type 0} (g : Ghosts S) (root : ℕ) (old new : S) (result : Result T Fault) : Type 0 where
@@ -103,18 +99,3 @@ pub record ReadsLeaf {S : Type 0} (g : Ghosts S) (old new : S) (result : Result 
   pub says : g.tells → IfOk result (λ leaf. SaysTree leaf.page.0 (header_of (page_of (g.contents old) leaf.page.0)))
   pub inside : IfOk result (λ leaf. leaf.page.0 < (g.shape old).pages)
   pub names : IfErr result (NamesAnyOrLacks (g.shape old).pages)
-
--- it is a page of the file, and breaks that rule
-abbrev pub NamesAny : ℕ → StoreFault → Type 0
-NamesAny pages Disk = ⊤
-NamesAny pages Print = ⊤
-NamesAny pages (Damaged page rule) = (page < pages) × (rule ≡ 7)
-
--- a call that goes down a tree to a page of the file
-pub record GoesDown {S : Type 0} (g : Ghosts S) (root : ℕ) (old new : S) (result : Result PageNo StoreFault) : Type 0 where
-  pub kept : Continues g old new result
-  pub contents : g.tells → OnOk result (g.contents new ≡ g.contents old)
-  pub mini : OnOk result (g.mini new ≡ g.mini old)
-  pub says : g.tells → OnOk result (SaysTree root (header_of (page_of (g.contents old) root)))
-  pub inside : IfOk result (λ page. page.0 < (g.shape old).pages)
-  pub names : IfErr result (NamesAny (g.shape old).pages)

@@ -3,8 +3,10 @@ use Rattle.std.specs.Prelude.{◌≡◌, ◌==◌, ℕ, List, Option, Some, None
 use Rattle.std.specs.Option.{option_map}
 use Rattle.isp_base.specs.declared.page_no.PageNo.{PageNo}
 use Rattle.isp_format.specs.Leaf.{Stored}
+use Rattle.isp_levels.specs.Inners.{number_of}
 use Rattle.isp_clustered.specs.Cells.{kept_of}
-use Rattle.isp_clustered.specs.Trees.{Tree, TreeLeaf, leaf_after, page_in}
+use Rattle.isp_clustered.specs.Trees.{Tree, leaf_after, page_in}
+use Rattle.isp_levels.specs.Levels.{TreeLeaf}
 use Rattle.isp_clustered.specs.declared.kept.KeptRow.{KeptRow}
 use Rattle.isp_clustered.specs.declared.kept.Leaf.{Leaf}
 
@@ -13,9 +15,6 @@ kept_row_of s = record { key = s.key; kept = kept_of s }
 
 abbrev pub kept_rows_of : List Stored → List KeptRow
 kept_rows_of rows = map kept_row_of rows
-
-abbrev pub number_of : Option PageNo → Option ℕ
-number_of page = option_map (λ (p : PageNo). p.0) page
 
 -- the page that a header's link leads to: 0 is none
 abbrev pub link_of : ℕ → Option ℕ

@@ -1,9 +1,7 @@
 pub mod Calls
 pub mod Cells
-pub mod Dividing
-pub mod Inners
+pub mod Found
 pub mod Leaves
-pub mod Levels
 pub mod Puts
 pub mod Rows
 pub mod Trees

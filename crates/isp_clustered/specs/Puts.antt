@@ -1,14 +1,16 @@
 -- What a row that is put makes of a tree, of the space, and of the contents: the leaf that has the key's place is edited, or
 -- divided in two (B-trees of Bayer and McCreight 1972, with the rows on the leaves), and the pages for it are free ones.
-use Rattle.std.specs.Prelude.{◌≡◌, ℕ, zero, suc, ◌+◌, ◌<◌, ◌≤◌, ◌||◌, ℤ, true, false, List, [], ◌∷◌, ◌++◌, All, Option, Some, None, drop, length, take}
+use Rattle.std.specs.Prelude.{◌≡◌, ℕ, zero, suc, ◌+◌, ◌<◌, ◌≤◌, ◌||◌, ℤ, true, false, List, [], ◌∷◌, ◌++◌, All, Option, Some, length}
 use Rattle.isp_base.specs.Lists.{times}
 use Rattle.isp_format.specs.Leaf.{Stored, stored_head}
 use Rattle.isp_format.specs.Ranges.{Contents}
 use Rattle.isp_page.specs.State.{is_among}
 use Rattle.isp_page.specs.Touched.{KeepsPages, is_page}
 use Rattle.isp_space.specs.Spaces.{IsSpace, Space, free_pages, most_counted, next_free, space_pages, taken}
-use Rattle.isp_clustered.specs.Rows.{may_put, with_put}
-use Rattle.isp_clustered.specs.Trees.{IsTree, Tree, TreeLeaf, least_key, on_leaf, pages_of, rows_of}
+use Rattle.isp_cells.specs.Rows.{may_put, with_put}
+use Rattle.isp_clustered.specs.Trees.{IsTree, Tree, pages_of, rows_of}
+use Rattle.isp_levels.specs.Dividing.{with_row_put}
+use Rattle.isp_levels.specs.Levels.{TreeLeaf}
 
 -- the space once so many pages are taken one after another, and these pages
 abbrev pub taken_times : ℕ → Space → Space
@@ -24,18 +26,9 @@ abbrev pub moved_leaves : Option ℕ → List TreeLeaf → List TreeLeaf
 moved_leaves (Some page) (leaf ∷ []) = record leaf { page = page } ∷ []
 moved_leaves moved leaves = leaves
 
--- the key of the first row
-abbrev pub first_key : List Stored → ℤ
-first_key [] = least_key
-first_key (s ∷ rows) = s.key
-
--- a leaf as it is; or divided behind so many rows, with the others on that page directly behind it
-abbrev pub parts_of : Option (ℕ × ℕ) → TreeLeaf → List TreeLeaf
-parts_of None leaf = leaf ∷ []
-parts_of (Some d) leaf = record leaf { rows = take d.1 leaf.rows } ∷ record { page = d.0; low = first_key (drop d.1 leaf.rows); rows = drop d.1 leaf.rows } ∷ []
-
 -- The second tree has this row at that key, unmarked and in a slot of its length, and otherwise the rows of the first. All leaves
--- stand but the one that has the key's place.
+-- stand but the one that has the key's place: it is edited, or divided, with the right part on a page directly behind it. A lone
+-- leaf that is divided moved before.
 pub record PutIn (key : ℤ) (row : List ℕ) (before after : Tree) : Type 0 where
   pub rows : rows_of after ≡ with_put key row (rows_of before)
   pub moved : Option ℕ
@@ -43,8 +36,8 @@ pub record PutIn (key : ℤ) (row : List ℕ) (before after : Tree) : Type 0 whe
   pub mid : TreeLeaf
   pub right : List TreeLeaf
   pub stood : moved_leaves moved before.leaves ≡ left ++ (mid ∷ right)
-  pub divided : Option (ℕ × ℕ)
-  pub stand : after.leaves ≡ left ++ (parts_of divided (on_leaf (with_put key row) mid) ++ right)
+  pub page : ℕ
+  pub stand : after.leaves ≡ left ++ (with_row_put key row page mid ++ right)
 
 -- the tree and the space have no page in common and none twice, and the tree's pages were used before
 pub record IsBeside (tree : Tree) (s : Space) : Type 0 where

@@ -1,21 +1,14 @@
 -- A clustered tree: its leaves in the order of their keys, and the pages above them.
-use Rattle.std.specs.Prelude.{◌≡◌, ℕ, ◌<◌, ◌≤◌, ◌^◌, ◌==◌, ℤ, Bool, List, [], ◌∷◌, ◌++◌, Option, Some, None, length, map, if◌then◌else◌}
-use Rattle.std.specs.Int.{cast_signed, w64}
+use Rattle.std.specs.Prelude.{◌≡◌, ℕ, ◌==◌, ℤ, Bool, false, List, [], ◌∷◌, ◌++◌, Option, Some, None, map, if◌then◌else◌}
 use Rattle.std.specs.List.{flat_map}
-use Rattle.isp_format.specs.Empty.{first_fresh}
-use Rattle.isp_format.specs.Header.{Header, header_of}
-use Rattle.isp_format.specs.Kinds.{clustered_owner, content_place, inner_kind, leaf_kind}
-use Rattle.isp_format.specs.Leaf.{IsLeafPage, Stored}
-use Rattle.isp_format.specs.Ranges.{Contents, page_of}
+use Rattle.isp_format.specs.Leaf.{Stored}
+use Rattle.isp_format.specs.Ranges.{Contents}
 use Rattle.isp_page.specs.State.{is_among}
 use Rattle.isp_page.specs.Touched.{KeepsPages}
-use Rattle.isp_clustered.specs.Rows.{Rises, can_drop, can_rewrite, has_key, is_fitting}
-
-pub record TreeLeaf : Type 0 where
-  pub page : ℕ
-  -- the key from which on it has keys
-  pub low : ℤ
-  pub rows : List Stored
+use Rattle.isp_cells.specs.Rows.{can_drop, can_rewrite, has_key, is_fitting}
+use Rattle.isp_levels.specs.Levels.{InnerNode, IsTreeOf, level_pages, pick_leaf}
+pub use Rattle.isp_levels.specs.Levels.{TreeLeaf, least_key}
+pub use Rattle.isp_levels.specs.Dividing.{on_leaf}
 
 pub record Tree : Type 0 where
   -- from left to right
@@ -30,36 +23,16 @@ rows_of tree = flat_map (λ leaf. leaf.rows) tree.leaves
 abbrev pub pages_of : Tree → List ℕ
 pages_of tree = map (λ leaf. leaf.page) tree.leaves ++ tree.inner
 
--- the least key
-unfoldable pub least_key : ℤ
-least_key = cast_signed w64 (2 ^ 63)
-
 -- the tree that is this leaf
 abbrev pub one_leaf : ℕ → List Stored → Tree
 one_leaf page rows = record { leaves = record { page = page; low = least_key; rows = rows } ∷ []; inner = [] }
 
--- The bytes of that page are a leaf of that table with these rows, and with their number, which links to the next page.
-pub record IsLeaf (bytes : List ℕ) (table own next : ℕ) (rows : List Stored) : Type 0 where
-  pub page : IsLeafPage bytes table own next rows
-  pub count : (header_of bytes).count ≡ length rows
-
--- In the contents of a file of so many pages this is the tree of that table on that page. For now it is one leaf.
+-- In the contents of a file of so many pages this is the tree of that table on that page: levels lead down to its leaves, and
+-- their pages are those above the leaves.
 pub record IsTree (pages : ℕ) (contents : Contents) (table root : ℕ) (tree : Tree) : Type 0 where
-  pub rows : List Stored
-  pub is : tree ≡ one_leaf root rows
-  pub leaf : IsLeaf (page_of contents root) table root 0 rows
-  pub rises : Rises rows
-  pub from : first_fresh ≤ root
-  pub to : root < pages
-
--- the header says a page of a clustered tree with that number
-pub record SaysTree (root : ℕ) (header : Header) : Type 0 where
-  pub from : leaf_kind ≤ header.kind
-  pub to : header.kind ≤ inner_kind
-  pub own : header.own ≡ root
-
-abbrev pub on_leaf : (List Stored → List Stored) → TreeLeaf → TreeLeaf
-on_leaf change leaf = record { page = leaf.page; low = leaf.low; rows = change leaf.rows }
+  pub levels : List (List InnerNode)
+  pub levelled : IsTreeOf pages contents table root levels tree.leaves
+  pub inner_is : tree.inner ≡ level_pages levels
 
 -- the tree with this made of the rows of each leaf
 abbrev pub on_leaves : (List Stored → List Stored) → Tree → Tree
@@ -70,9 +43,13 @@ pub record IsEdited (pages : ℕ) (old new : Contents) (table root : ℕ) (tree 
   pub is_tree : IsTree pages new table root (on_leaves change tree)
   pub others : KeepsPages (λ page. is_among page (pages_of tree)) old new
 
--- so many bytes of a row find room on the leaf, where a row of that key goes
+-- so many bytes of a row find room on the leaf that the key goes to
+abbrev pub fits_on : ℤ → ℕ → Option TreeLeaf → Bool
+fits_on key size None = false
+fits_on key size (Some leaf) = is_fitting key size leaf.rows
+
 abbrev pub fits : ℤ → ℕ → Tree → Bool
-fits key size tree = is_fitting key size (rows_of tree)
+fits key size tree = fits_on key size (pick_leaf key tree.leaves)
 
 -- the tree has a row of that key; one whose slot holds so many bytes; one that is marked
 abbrev pub has : ℤ → Tree → Bool
@@ -102,7 +79,3 @@ leaf_after tree (Some page) = leaf_behind tree.leaves page
 abbrev pub page_in : Option TreeLeaf → Option ℕ
 page_in None = None
 page_in (Some leaf) = Some leaf.page
-
--- the header of a leaf without rows
-abbrev pub leaf_header : ℕ → ℕ → Header
-leaf_header table page = record { kind = leaf_kind; level = 0; count = 0; owner = clustered_owner table; next = 0; prev = 0; ssn = 0; own = page; used = content_place }

@@ -5,15 +5,19 @@ ghost use Rattle.isp_format.specs.Header.{header_of};
 ghost use Rattle.isp_format.specs.Leaf.{IsLeafPage, Stored};
 ghost use Rattle.isp_format.specs.Ranges.{page_of};
 ghost use Rattle.isp_page.specs.Steps.{IsNoDamage, IsNoDamageOrLacks};
-ghost use Rattle.isp_clustered.specs.Calls.{HasTree, ReadsLeaf, ReadsTree};
-ghost use Rattle.isp_clustered.specs.Cells.{IsWithin, Stand, cell_of};
-ghost use Rattle.isp_clustered.specs.Leaves.{IsLeafOf, IsWhole, kept_row_of, kept_rows_of, link_of, number_of};
-ghost use Rattle.isp_clustered.specs.Trees.{Tree, TreeLeaf, leaf_after};
+ghost use Rattle.isp_levels.specs.Walks.{ReadsPage};
+ghost use Rattle.isp_clustered.specs.Calls.{HasTree, ReadsLeaf};
+ghost use Rattle.isp_cells.specs.Cells.{IsWithin, Stand, cell_of};
+ghost use Rattle.isp_clustered.specs.Leaves.{IsLeafOf, IsWhole, kept_row_of, kept_rows_of, link_of};
+ghost use Rattle.isp_levels.specs.Inners.{number_of};
+ghost use Rattle.isp_clustered.specs.Trees.{Tree, leaf_after};
+ghost use Rattle.isp_levels.specs.Levels.{TreeLeaf};
 
-use crate::cells::{Cell, FIRST_PLACE, HEAD, cell_at};
 use crate::kept::{KeptRow, KeptRows, Leaf};
-use crate::reading::{broken, copy_cell, empty_page, read_leaf};
-use isp_format::{Page, PageNo, get_i64, head};
+use crate::reading::{copy_cell, read_leaf};
+use isp_cells::{Cell, cell_at};
+use isp_format::{CONTENT_PLACE, Page, PageNo, STORED_HEAD, get_i64, head};
+use isp_levels::{broken, leaf_for};
 use isp_page::{Fault, Pages, StoreFault};
 use sqlite_items::Items;
 use std::alloc::{AllocError, Global};
@@ -44,14 +48,14 @@ fn rows_in(alloc: Global, p: &Page, used: usize) -> Result<Option<KeptRows>, All
         → IfOk result (λ got. got ≡ Some (kept_rows_of rows)) }
 {
     let mut rows = Items::new(alloc);
-    let mut at = FIRST_PLACE;
+    let mut at = CONTENT_PLACE;
     while at < used {
         let Some(cell) = cell_at(p, at, used) else {
             return Ok(None);
         };
         let row = copy_row(alloc, p, at, used, cell)?;
         rows.push(row)?;
-        at += HEAD + usize::from(cell.slot);
+        at += STORED_HEAD + usize::from(cell.slot);
     }
     Ok(Some(rows))
 }
@@ -77,7 +81,7 @@ fn whole_leaf<P: Pages>(alloc: Global, pages: &mut P, page: PageNo) -> Result<Le
         → IsLeafPage (page_of (P.contents pages.old) page.0) table page.0 next rows
         → IfErr result IsNoDamageOrLacks }
 {
-    let mut p = empty_page();
+    let mut p = Page::zeros();
     let used = read_leaf(pages, page, &mut p)?;
     let rows = rows_in(alloc, &p, used)?;
     match rows {
@@ -93,11 +97,17 @@ fn whole_leaf<P: Pages>(alloc: Global, pages: &mut P, page: PageNo) -> Result<Le
 fn right_of<P: Pages>(pages: &mut P, page: PageNo) -> Result<PageNo, StoreFault>
     requires usable { P.usable pages.old ≡ true }
     requires page { page.0 < (P.shape pages.old).pages }
-    ensures reads { ReadsTree P.Pages page.0 pages.old pages.new result }
+    ensures reads { ReadsPage P.Pages page.0 pages.old pages.new result }
     ensures inside { IfOk result (λ right. right.0 < (P.shape pages.old).pages) }
+    ensures right { P.tells → (table next : ℕ) (rows : List Stored)
+        → IsLeafPage (page_of (P.contents pages.old) page.0) table page.0 next rows → 1 ≤ next
+        → IfOk result (λ right. right.0 ≡ next) }
+    ensures sound { P.tells → (table next : ℕ) (rows : List Stored)
+        → IsLeafPage (page_of (P.contents pages.old) page.0) table page.0 next rows → 1 ≤ next
+        → next < (P.shape pages.old).pages → IfErr result IsNoDamage }
 {
     let count = pages.pages();
-    let mut p = empty_page();
+    let mut p = Page::zeros();
     let _used = read_leaf(pages, page, &mut p)?;
     match right_link(&p) {
         Some(right) => {
@@ -115,7 +125,7 @@ fn right_of<P: Pages>(pages: &mut P, page: PageNo) -> Result<PageNo, StoreFault>
 ///
 /// # Errors
 ///
-/// Disk; want of memory; or Damaged, with the page that is read and rule 7, where that is no leaf of rows, or where no leaf
+/// Disk; want of memory; or Damaged, with the page that is read and rule 7, where that is no page of a tree, or where no leaf
 /// stands to its right.
 pub fn next_leaf<P: Pages>(
     alloc: Global,
@@ -141,7 +151,8 @@ pub fn next_leaf<P: Pages>(
             Ok(leaf)
         }
         None => {
-            let leaf = whole_leaf(alloc, pages, root)?;
+            let first = leaf_for(pages, root, i64::MIN)?;
+            let leaf = whole_leaf(alloc, pages, first)?;
             Ok(leaf)
         }
     }

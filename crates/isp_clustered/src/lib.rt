@@ -2,17 +2,11 @@
 //! rewritten where it stands. For now a tree is one leaf.
 //!
 //! - `kept`: what calls answer of a row.
-//! - `cells`: rows in the bytes of a leaf, and where they stand.
-//! - `edits`: a leaf with one row exchanged.
-//! - `inner`: pages above the leaves, and the way down.
 //! - `leaves`: whole leaves, one after another.
 //! - `reading`: the calls that look for a key.
 //! - `writing`: the calls that change a tree.
 #![tactic(auto)]
 
-mod cells;
-mod edits;
-mod inner;
 mod kept;
 mod leaves;
 mod reading;

@@ -1,85 +1,81 @@
-//! The calls that only read.
-ghost use Rattle.std.specs.Prelude.{◌≡◌, ◌+◌, ◌<◌, ◌≤◌, ◌∷◌, ℕ, ℤ, List, true, Some, length, IfErr, IfOk, IfSome, OnOk};
+//! The calls that only read, and the leaf of a key.
+ghost use Rattle.std.specs.Prelude.{◌≡◌, ◌+◌, ◌<◌, ◌≤◌, ◌∷◌, ℕ, ℤ, List, true, length, IfErr, IfOk, OnOk};
 ghost use Rattle.std.specs.List.{flat_map};
 ghost use Rattle.std.specs.Option.{option_map};
 ghost use Rattle.isp_disk.specs.Moments.{image_of};
-ghost use Rattle.isp_format.specs.Header.{header_of};
 ghost use Rattle.isp_format.specs.Leaf.{IsLeafPage, Stored, stored_bytes};
 ghost use Rattle.isp_format.specs.Ranges.{page_of};
 ghost use Rattle.isp_page.specs.Steps.{IsNoDamage, IsNoDamageOrLacks};
-ghost use Rattle.isp_page.specs.declared.fault.StoreFault.TheVariants.{Damaged};
+ghost use Rattle.isp_cells.specs.Cells.{IsPlaceWithin, IsWithin, Stand, cell_of, place_in};
+ghost use Rattle.isp_cells.specs.Rows.{find};
+ghost use Rattle.isp_levels.specs.Walks.{ReadsPage};
 ghost use Rattle.isp_clustered.specs.Calls.{HasTree, ReadsTree, ReadsTreeOrLacks};
-ghost use Rattle.isp_clustered.specs.Cells.{IsPlaceWithin, IsWithin, Stand, cell_of, kept_of, place_in};
-ghost use Rattle.isp_clustered.specs.Levels.{InnerNode, IsTreeOf, all_rows};
-ghost use Rattle.isp_clustered.specs.Rows.{find};
-ghost use Rattle.isp_clustered.specs.Trees.{SaysTree, Tree, TreeLeaf, fits, rows_of};
+ghost use Rattle.isp_clustered.specs.Cells.{kept_of};
+ghost use Rattle.isp_clustered.specs.Found.{IsFoundLeaf};
+ghost use Rattle.isp_clustered.specs.Trees.{Tree, fits, rows_of};
 
-use crate::cells::{Cell, HEAD, Place, piece, place_of};
-use crate::edits::is_room;
-use crate::inner::leaf_for;
 use crate::kept::Kept;
 use isp_base::Bytes;
-use isp_format::{Page, PageNo, head};
+use isp_cells::{Cell, Place, is_room, leaf_end, piece, place_of};
+use isp_format::{Page, PageNo, STORED_HEAD};
+use isp_levels::{broken, leaf_for};
 use isp_page::{Fault, Pages, StoreFault};
 use std::alloc::{AllocError, Global};
-
-// The kind of a leaf.
-pub(crate) const LEAF: u8 = 4;
-
-pub(crate) fn empty_page() -> Page {
-    Page { bytes: [0; 4096] }
-}
-
-// Where the rows of a leaf end, if the page's header says a leaf with that number.
-fn used_of(p: &Page, own: u32) -> Option<usize>
-    ensures within { IfSome result (λ used. (64 ≤ used) × (used ≤ 4096)) }
-    ensures used { (table next : ℕ) (rows : List Stored)
-        → IsLeafPage p.now.bytes table own next rows
-        → result ≡ Some (64 + length (flat_map stored_bytes rows)) }
-    ensures says { IfSome result (λ used. SaysTree own (header_of p.now.bytes)) }
-{
-    let h = head(p);
-    let is_leaf = h.kind == LEAF && h.level == 0 && h.own.0 == own;
-    if is_leaf && h.used >= 64 && h.used <= 4096 {
-        Some(h.used as usize)
-    } else {
-        None
-    }
-}
-
-/// That a page isn't what a page of a clustered tree has to be.
-pub(crate) fn broken(page: PageNo) -> StoreFault
-    ensures { result ≡ Damaged page.0 7 }
-{
-    StoreFault::Damaged {
-        page: page.0,
-        rule: 7,
-    }
-}
 
 // Reads the page of a leaf into `into`, and answers where its rows end.
 pub(crate) fn read_leaf<P: Pages>(
     pages: &mut P,
-    root: PageNo,
+    page: PageNo,
     into: &mut Page,
 ) -> Result<usize, StoreFault>
     requires usable { P.usable pages.old ≡ true }
-    requires page { root.0 < (P.shape pages.old).pages }
-    ensures reads { ReadsTree P.Pages root.0 pages.old pages.new result }
-    ensures page { P.tells → OnOk result (into.new.bytes ≡ page_of (P.contents pages.old) root.0) }
+    requires page { page.0 < (P.shape pages.old).pages }
+    ensures reads { ReadsPage P.Pages page.0 pages.old pages.new result }
+    ensures page { P.tells → OnOk result (into.new.bytes ≡ page_of (P.contents pages.old) page.0) }
     ensures within { IfOk result (λ used. (64 ≤ used) × (used ≤ 4096)) }
     ensures stand { (table next : ℕ) (rows : List Stored)
-        → IsLeafPage into.new.bytes table root.0 next rows
+        → IsLeafPage into.new.bytes table page.0 next rows
         → IfOk result (λ used. used ≡ 64 + length (flat_map stored_bytes rows)) }
     ensures sound { P.tells → (table next : ℕ) (rows : List Stored)
-        → IsLeafPage (page_of (P.contents pages.old) root.0) table root.0 next rows
+        → IsLeafPage (page_of (P.contents pages.old) page.0) table page.0 next rows
         → IfErr result IsNoDamage }
 {
-    pages.read(root, into)?;
-    match used_of(into, root.0) {
+    pages.read(page, into)?;
+    match leaf_end(into, page.0) {
         Some(used) => Ok(used),
-        None => Err(broken(root)),
+        None => Err(broken(page)),
     }
+}
+
+/// The leaf of a key: its page, and where its rows end.
+#[derive(Clone, Copy)]
+pub(crate) struct FoundLeaf {
+    pub page: PageNo,
+    pub used: usize,
+}
+
+/// Reads the leaf of a key into `into`.
+pub(crate) fn find_leaf<P: Pages>(
+    pages: &mut P,
+    root: PageNo,
+    key: i64,
+    into: &mut Page,
+) -> Result<FoundLeaf, StoreFault>
+    requires usable { P.usable pages.old ≡ true }
+    requires page { root.0 < (P.shape pages.old).pages }
+    ensures reads { ReadsTree P.Pages root.0 pages.old pages.new result }
+    ensures inside { IfOk result (λ at. at.page.0 < (P.shape pages.old).pages) }
+    ensures bytes { P.tells → IfOk result (λ at. into.new.bytes ≡ page_of (P.contents pages.old) at.page.0) }
+    ensures within { IfOk result (λ at. (64 ≤ at.used) × (at.used ≤ 4096)) }
+    ensures leaf { P.tells → (table : ℕ) (tree : Tree)
+        → HasTree P.Pages pages.old table root.0 tree
+        → IfOk result (λ at. IsFoundLeaf into.new.bytes at.page.0 at.used table key tree) }
+    ensures sound { P.tells → (table : ℕ) (tree : Tree)
+        → HasTree P.Pages pages.old table root.0 tree → IfErr result IsNoDamage }
+{
+    let page = leaf_for(pages, root, key)?;
+    let used = read_leaf(pages, page, into)?;
+    Ok(FoundLeaf { page, used })
 }
 
 // A row that stands on the page, copied.
@@ -95,7 +91,7 @@ pub(crate) fn copy_cell(
     ensures { (s : Stored) (rows : List Stored) → Stand (image_of p.now.bytes) at used (s ∷ rows)
         → cell ≡ cell_of s → IfOk result (λ kept. kept ≡ kept_of s) }
 {
-    let row = Bytes::from_slice(alloc, piece(p, at + HEAD, usize::from(cell.length)))?;
+    let row = Bytes::from_slice(alloc, piece(p, at + STORED_HEAD, usize::from(cell.length)))?;
     Ok(Kept {
         row,
         marked: cell.marked,
@@ -120,56 +116,6 @@ fn kept_at(alloc: Global, p: &Page, used: usize, place: Place) -> Result<Option<
     }
 }
 
-// The row of a key on a leaf.
-fn row_on<P: Pages>(
-    alloc: Global,
-    pages: &mut P,
-    leaf: PageNo,
-    key: i64,
-) -> Result<Option<Kept>, Fault>
-    requires usable { P.usable pages.old ≡ true }
-    requires page { leaf.0 < (P.shape pages.old).pages }
-    ensures reads { ReadsTreeOrLacks P.Pages leaf.0 pages.old pages.new result }
-    ensures row { P.tells → (table next : ℕ) (rows : List Stored)
-        → IsLeafPage (page_of (P.contents pages.old) leaf.0) table leaf.0 next rows
-        → IfOk result (λ got. got ≡ option_map kept_of (find key rows)) }
-    ensures sound { P.tells → (table next : ℕ) (rows : List Stored)
-        → IsLeafPage (page_of (P.contents pages.old) leaf.0) table leaf.0 next rows
-        → IfErr result IsNoDamageOrLacks }
-{
-    let mut page = empty_page();
-    let used = read_leaf(pages, leaf, &mut page)?;
-    match place_of(&page, used, key) {
-        Some(place) => {
-            let got = kept_at(alloc, &page, used, place)?;
-            Ok(got)
-        }
-        None => Err(Fault::Store(broken(leaf))),
-    }
-}
-
-// The row of a key in a tree of any height.
-fn find_row<P: Pages>(
-    alloc: Global,
-    pages: &mut P,
-    root: PageNo,
-    key: i64,
-) -> Result<Option<Kept>, Fault>
-    requires usable { P.usable pages.old ≡ true }
-    requires page { root.0 < (P.shape pages.old).pages }
-    ensures reads { ReadsTreeOrLacks P.Pages root.0 pages.old pages.new result }
-    ensures found { P.tells → (table : ℕ) (levels : List (List InnerNode)) (leaves : List TreeLeaf)
-        → IsTreeOf (P.shape pages.old).pages (P.contents pages.old) table root.0 levels leaves
-        → IfOk result (λ got. got ≡ option_map kept_of (find key (all_rows leaves))) }
-    ensures sound { P.tells → (table : ℕ) (levels : List (List InnerNode)) (leaves : List TreeLeaf)
-        → IsTreeOf (P.shape pages.old).pages (P.contents pages.old) table root.0 levels leaves
-        → IfErr result IsNoDamageOrLacks }
-{
-    let leaf = leaf_for(pages, root, key)?;
-    let got = row_on(alloc, pages, leaf, key)?;
-    Ok(got)
-}
-
 /// The row of a key, with its mark and its slot, or None where the tree has none of that key. It reads the root, and one page
 /// a level.
 ///
@@ -192,15 +138,22 @@ pub fn get<P: Pages>(
         → HasTree P.Pages pages.old table root.0 tree
         → IfErr result IsNoDamageOrLacks }
 {
-    let got = find_row(alloc, pages, root, key)?;
-    Ok(got)
+    let mut page = Page::zeros();
+    let leaf = find_leaf(pages, root, key, &mut page)?;
+    match place_of(&page, leaf.used, key) {
+        Some(place) => {
+            let got = kept_at(alloc, &page, leaf.used, place)?;
+            Ok(got)
+        }
+        None => Err(Fault::Store(broken(leaf.page))),
+    }
 }
 
-/// Whether a row of so many bytes has room on the leaf, in the place of the row of its key if there is one.
+/// Whether a row of so many bytes has room on the leaf that its key goes to, in the place of the row of its key if there is one.
 ///
 /// # Errors
 ///
-/// Disk; or Damaged, with the tree's page and rule 7, where that is no leaf of rows.
+/// Disk; or Damaged, with the page that is read and rule 7, where that is no page of a tree.
 pub fn fits<P: Pages>(
     pages: &mut P,
     root: PageNo,
@@ -217,10 +170,10 @@ pub fn fits<P: Pages>(
     ensures sound { P.tells → (table : ℕ) (tree : Tree)
         → HasTree P.Pages pages.old table root.0 tree → IfErr result IsNoDamage }
 {
-    let mut page = empty_page();
-    let used = read_leaf(pages, root, &mut page)?;
-    match place_of(&page, used, key) {
-        Some(place) => Ok(is_room(place, used, size)),
-        None => Err(broken(root)),
+    let mut page = Page::zeros();
+    let leaf = find_leaf(pages, root, key, &mut page)?;
+    match place_of(&page, leaf.used, key) {
+        Some(place) => Ok(is_room(place, leaf.used, size)),
+        None => Err(broken(leaf.page)),
     }
 }

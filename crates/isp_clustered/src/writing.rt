@@ -5,64 +5,67 @@ ghost use Rattle.isp_format.specs.Ranges.{page_of};
 ghost use Rattle.isp_format.specs.HeadValues.{header_in};
 ghost use Rattle.isp_page.specs.Steps.{IsNoDamage};
 ghost use Rattle.isp_space.specs.Spaces.{NamesSpace, Space, free_pages};
-ghost use Rattle.isp_clustered.specs.Calls.{ChangesTree, Creates, CreatesTree, Edits, HasSpace, HasTree, MayPut, NamesRoot, NamesRootOrSpace, Puts};
+ghost use Rattle.isp_levels.specs.Walks.{NamesAny};
+ghost use Rattle.isp_clustered.specs.Calls.{ChangesTree, Creates, CreatesTree, Edits, HasSpace, HasTree, MayPut, NamesTreeOrSpace, Puts};
 ghost use Rattle.isp_space.specs.Changes.{ChangesPages, MayChange};
 ghost use Rattle.isp_clustered.specs.Puts.{IsApart, most_put};
-ghost use Rattle.isp_clustered.specs.Rows.{marked_at, with_row, without};
-ghost use Rattle.isp_clustered.specs.Trees.{Tree, fits, has, has_marked, holds, leaf_header};
+ghost use Rattle.isp_cells.specs.Rows.{marked_at, with_row, without};
+ghost use Rattle.isp_clustered.specs.Trees.{Tree, fits, has, has_marked, holds};
+ghost use Rattle.isp_cells.specs.LeafPages.{leaf_header};
 
-use crate::edits::{drop_in, mark_in, put_in, rewrite_in};
-use crate::reading::{LEAF, broken, empty_page, read_leaf};
-use isp_format::{Head, Page, PageNo, set_head};
+use crate::reading::find_leaf;
+use isp_cells::{drop_in, mark_in, put_in, rewrite_in};
+use isp_format::{CONTENT_PLACE, Head, LEAF_KIND, Page, PageNo, clustered_owner, set_head};
+use isp_levels::broken;
 use isp_page::{Pages, StoreFault, replace};
 use isp_space::{add_bytes, take_page};
 
-// Exchanges the tree's page for the edited one, if there is one.
+// Exchanges a leaf's page for the edited one, if there is one.
 fn exchange<P: Pages>(
     pages: &mut P,
-    root: PageNo,
+    page: PageNo,
     old: &Page,
     edited: Option<Page>,
 ) -> Result<(), StoreFault>
     requires can { MayChange P.Pages 1 pages.old }
-    requires page { root.0 < (P.shape pages.old).pages }
-    ensures changes { ChangesPages P.Pages (root.0 ∷ []) (NamesRoot root.0) pages.old pages.new
+    requires page { page.0 < (P.shape pages.old).pages }
+    ensures changes { ChangesPages P.Pages (page.0 ∷ []) (NamesAny (P.shape pages.old).pages) pages.old pages.new
         result }
-    ensures page { P.tells → old.now.bytes ≡ page_of (P.contents pages.old) root.0
-        → OnOk result (IfSome edited (λ new. page_of (P.contents pages.new) root.0 ≡ new.bytes)) }
+    ensures put { P.tells → old.now.bytes ≡ page_of (P.contents pages.old) page.0
+        → OnOk result (IfSome edited (λ new. page_of (P.contents pages.new) page.0 ≡ new.bytes)) }
     ensures only { OnOk result (is_none edited ≡ false) }
     ensures sound { is_none edited ≡ false → IfErr result IsNoDamage }
 {
     match edited {
         Some(new) => {
-            replace(pages, root, old, &new)?;
+            replace(pages, page, old, &new)?;
             Ok(())
         }
-        None => Err(broken(root)),
+        None => Err(broken(page)),
     }
 }
 
-// Counts bytes that are put, and exchanges the tree's page.
+// Counts bytes that are put, and exchanges a leaf's page.
 fn count_and_replace<P: Pages>(
     pages: &mut P,
-    root: PageNo,
+    page: PageNo,
     old: &Page,
     new: &Page,
     bytes: u64,
 ) -> Result<(), StoreFault>
     requires can { MayChange P.Pages 2 pages.old }
-    requires page { root.0 < (P.shape pages.old).pages }
-    ensures changes { ChangesPages P.Pages (0 ∷ root.0 ∷ []) NamesSpace pages.old pages.new result }
-    ensures page { P.tells → 16 ≤ root.0 → old.now.bytes ≡ page_of (P.contents pages.old) root.0
-        → OnOk result (page_of (P.contents pages.new) root.0 ≡ new.now.bytes) }
+    requires page { page.0 < (P.shape pages.old).pages }
+    ensures changes { ChangesPages P.Pages (0 ∷ page.0 ∷ []) NamesSpace pages.old pages.new result }
+    ensures put { P.tells → 16 ≤ page.0 → old.now.bytes ≡ page_of (P.contents pages.old) page.0
+        → OnOk result (page_of (P.contents pages.new) page.0 ≡ new.now.bytes) }
     ensures space { P.tells → (s : Space) → HasSpace P.Pages pages.old s
-        → IsApart root.0 s → OnOk result (HasSpace P.Pages pages.new
+        → IsApart page.0 s → OnOk result (HasSpace P.Pages pages.new
         (record s { bytes = s.bytes + bytes })) }
     ensures sound { P.tells → (s : Space) → HasSpace P.Pages pages.old s
         → s.bytes + bytes < 2 ^ 63 → IfErr result IsNoDamage }
 {
     add_bytes(pages, bytes)?;
-    replace(pages, root, old, new)?;
+    replace(pages, page, old, new)?;
     Ok(())
 }
 
@@ -71,13 +74,13 @@ fn count_and_replace<P: Pages>(
 ///
 /// # Errors
 ///
-/// Disk; Damaged, with the tree's page and rule 7, where that is no leaf of rows or has no room, or with page 0 and rule 4,
+/// Disk; Damaged, with the page that is read and rule 7, where that is no page of a tree or has no room, or with page 0 and rule 4,
 /// where that says no space.
 pub fn put<P: Pages>(pages: &mut P, root: PageNo, key: i64, row: &[u8]) -> Result<(), StoreFault>
     requires can { MayChange P.Pages most_put pages.old }
     requires page { root.0 < (P.shape pages.old).pages }
     requires row { length row.now ≤ 1000 }
-    ensures changes { ChangesTree P.Pages root.0 (NamesRootOrSpace root.0) most_put
+    ensures changes { ChangesTree P.Pages root.0 (NamesTreeOrSpace (P.shape pages.old).pages) most_put
         pages.old pages.new result }
     ensures put { P.tells → (table : ℕ) (tree : Tree) (s : Space)
         → MayPut P.Pages pages.old table root.0 key (length row.now) tree s
@@ -86,14 +89,14 @@ pub fn put<P: Pages>(pages: &mut P, root: PageNo, key: i64, row: &[u8]) -> Resul
         → MayPut P.Pages pages.old table root.0 key (length row.now) tree s
         → fits key (length row.now) tree ≡ true → IfErr result IsNoDamage }
 {
-    let mut page = empty_page();
-    let used = read_leaf(pages, root, &mut page)?;
-    match put_in(&page, used, key, row) {
+    let mut page = Page::zeros();
+    let leaf = find_leaf(pages, root, key, &mut page)?;
+    match put_in(&page, leaf.used, key, row) {
         Some(new) => {
-            count_and_replace(pages, root, &page, &new, (13 + row.len()) as u64)?;
+            count_and_replace(pages, leaf.page, &page, &new, (13 + row.len()) as u64)?;
             Ok(())
         }
-        None => Err(broken(root)),
+        None => Err(broken(leaf.page)),
     }
 }
 
@@ -101,7 +104,7 @@ pub fn put<P: Pages>(pages: &mut P, root: PageNo, key: i64, row: &[u8]) -> Resul
 ///
 /// # Errors
 ///
-/// Disk; or Damaged, with the tree's page and rule 7, where that is no leaf of rows, has no row of that key, or has it in a
+/// Disk; or Damaged, with the page that is read and rule 7, where that is no page of a tree, has no row of that key, or has it in a
 /// smaller slot.
 pub fn rewrite<P: Pages>(
     pages: &mut P,
@@ -112,7 +115,7 @@ pub fn rewrite<P: Pages>(
 ) -> Result<(), StoreFault>
     requires can { MayChange P.Pages 1 pages.old }
     requires page { root.0 < (P.shape pages.old).pages }
-    ensures changes { ChangesTree P.Pages root.0 (NamesRoot root.0) 1 pages.old pages.new result }
+    ensures changes { ChangesTree P.Pages root.0 (NamesAny (P.shape pages.old).pages) 1 pages.old pages.new result }
     ensures written { P.tells → (table : ℕ) (tree : Tree)
         → HasTree P.Pages pages.old table root.0 tree
         → OnOk result (Edits P.Pages pages.old pages.new table root.0 tree
@@ -124,10 +127,10 @@ pub fn rewrite<P: Pages>(
         → HasTree P.Pages pages.old table root.0 tree
         → holds key (length row.now) tree ≡ true → IfErr result IsNoDamage }
 {
-    let mut page = empty_page();
-    let used = read_leaf(pages, root, &mut page)?;
-    let edited = rewrite_in(&page, used, key, row, marked);
-    exchange(pages, root, &page, edited)?;
+    let mut page = Page::zeros();
+    let leaf = find_leaf(pages, root, key, &mut page)?;
+    let edited = rewrite_in(&page, leaf.used, key, row, marked);
+    exchange(pages, leaf.page, &page, edited)?;
     Ok(())
 }
 
@@ -135,11 +138,11 @@ pub fn rewrite<P: Pages>(
 ///
 /// # Errors
 ///
-/// Disk; or Damaged, with the tree's page and rule 7, where that is no leaf of rows or has no row of that key.
+/// Disk; or Damaged, with the page that is read and rule 7, where that is no page of a tree or has no row of that key.
 pub fn mark<P: Pages>(pages: &mut P, root: PageNo, key: i64) -> Result<(), StoreFault>
     requires can { MayChange P.Pages 1 pages.old }
     requires page { root.0 < (P.shape pages.old).pages }
-    ensures changes { ChangesTree P.Pages root.0 (NamesRoot root.0) 1 pages.old pages.new result }
+    ensures changes { ChangesTree P.Pages root.0 (NamesAny (P.shape pages.old).pages) 1 pages.old pages.new result }
     ensures marked { P.tells → (table : ℕ) (tree : Tree)
         → HasTree P.Pages pages.old table root.0 tree
         → OnOk result (Edits P.Pages pages.old pages.new table root.0 tree (marked_at key)) }
@@ -150,10 +153,10 @@ pub fn mark<P: Pages>(pages: &mut P, root: PageNo, key: i64) -> Result<(), Store
         → HasTree P.Pages pages.old table root.0 tree
         → has key tree ≡ true → IfErr result IsNoDamage }
 {
-    let mut page = empty_page();
-    let used = read_leaf(pages, root, &mut page)?;
-    let edited = mark_in(&page, used, key);
-    exchange(pages, root, &page, edited)?;
+    let mut page = Page::zeros();
+    let leaf = find_leaf(pages, root, key, &mut page)?;
+    let edited = mark_in(&page, leaf.used, key);
+    exchange(pages, leaf.page, &page, edited)?;
     Ok(())
 }
 
@@ -161,11 +164,11 @@ pub fn mark<P: Pages>(pages: &mut P, root: PageNo, key: i64) -> Result<(), Store
 ///
 /// # Errors
 ///
-/// Disk; or Damaged, with the tree's page and rule 7, where that is no leaf of rows or has no marked row of that key.
+/// Disk; or Damaged, with the page that is read and rule 7, where that is no page of a tree or has no marked row of that key.
 pub fn drop_marked<P: Pages>(pages: &mut P, root: PageNo, key: i64) -> Result<(), StoreFault>
     requires can { MayChange P.Pages 1 pages.old }
     requires page { root.0 < (P.shape pages.old).pages }
-    ensures changes { ChangesTree P.Pages root.0 (NamesRoot root.0) 1 pages.old pages.new result }
+    ensures changes { ChangesTree P.Pages root.0 (NamesAny (P.shape pages.old).pages) 1 pages.old pages.new result }
     ensures dropped { P.tells → (table : ℕ) (tree : Tree)
         → HasTree P.Pages pages.old table root.0 tree
         → OnOk result (Edits P.Pages pages.old pages.new table root.0 tree (without key)) }
@@ -176,10 +179,10 @@ pub fn drop_marked<P: Pages>(pages: &mut P, root: PageNo, key: i64) -> Result<()
         → HasTree P.Pages pages.old table root.0 tree
         → has_marked key tree ≡ true → IfErr result IsNoDamage }
 {
-    let mut page = empty_page();
-    let used = read_leaf(pages, root, &mut page)?;
-    let edited = drop_in(&page, used, key);
-    exchange(pages, root, &page, edited)?;
+    let mut page = Page::zeros();
+    let leaf = find_leaf(pages, root, key, &mut page)?;
+    let edited = drop_in(&page, leaf.used, key);
+    exchange(pages, leaf.page, &page, edited)?;
     Ok(())
 }
 
@@ -189,15 +192,15 @@ fn leaf_head(p: PageNo, table: u32) -> Head
     ensures { header_in result ≡ leaf_header table p.0 }
 {
     Head {
-        kind: LEAF,
+        kind: LEAF_KIND,
         level: 0,
         count: 0,
-        owner: 32 * table,
+        owner: clustered_owner(table),
         next: PageNo(0),
         prev: PageNo(0),
         ssn: 0,
         own: p,
-        used: 64,
+        used: CONTENT_PLACE as u32,
     }
 }
 
@@ -210,7 +213,7 @@ fn make_leaf<P: Pages>(pages: &mut P, p: PageNo, table: u32) -> Result<(), Store
     ensures header { P.tells → OnOk result (header_of (page_of (P.contents pages.new) p.0) ≡
         leaf_header table p.0) }
 {
-    let mut page = empty_page();
+    let mut page = Page::zeros();
     pages.read(p, &mut page)?;
     let mut new = page;
     set_head(&mut new, &leaf_head(p, table));

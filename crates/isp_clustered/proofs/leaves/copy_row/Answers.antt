@@ -3,7 +3,7 @@ use Rattle.std.specs.Prelude.{FitsSigned}
 use Rattle.std.specs.Int.{w64}
 use Rattle.std.proofs.lemmas.Int.{to_z-of_z}
 use Rattle.isp_disk.specs.Moments.{image_of}
-use Rattle.isp_clustered.proofs.CellLaws.{first_stands}
+use Rattle.isp_cells.proofs.CellLaws.{first_stands}
 use Rattle.isp_clustered.proofs.leaves.copy_row.Goals as goal
 
 pub returns : goal.returns

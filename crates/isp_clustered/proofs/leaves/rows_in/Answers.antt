@@ -1,6 +1,6 @@
 use Rattle.std.proofs.Common.{rules, ◌+◌, Some, refl, sym, ◌∙◌, ap, subst, arith}
 use Rattle.isp_disk.specs.Moments.{image_of}
-use Rattle.isp_clustered.proofs.CellLaws.{slot_in}
+use Rattle.isp_cells.proofs.CellLaws.{slot_in}
 use Rattle.isp_clustered.proofs.WholeLaws.{Copied, cell_same, copy_ends, copy_on, copy_some}
 use Rattle.isp_clustered.proofs.leaves.rows_in.Goals as goal
 

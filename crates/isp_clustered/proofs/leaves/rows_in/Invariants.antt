@@ -1,7 +1,7 @@
 use Rattle.std.proofs.Common.{◌≤◌, ◌-◌, List}
 use Rattle.isp_disk.specs.Moments.{image_of}
 use Rattle.isp_format.specs.Leaf.{Stored}
-use Rattle.isp_clustered.specs.Cells.{Stand}
+use Rattle.isp_cells.specs.Cells.{Stand}
 use Rattle.isp_clustered.proofs.WholeLaws.{Copied}
 use Rattle.isp_clustered.proofs.leaves.rows_in.Given as goal
 

@@ -1,8 +1,7 @@
 use Rattle.std.proofs.Common.{rules, ℕ, List, sym, ◌∙◌, ap, subst}
 use Rattle.isp_format.specs.Leaf.{IsLeafPage}
 use Rattle.isp_clustered.specs.Leaves.{kept_rows_of, link_of}
-use Rattle.isp_clustered.proofs.CellLaws.{none_some}
-use Rattle.isp_clustered.proofs.TreeLaws.{leaf_stands_to}
+use Rattle.isp_cells.proofs.CellLaws.{none_some, leaf_stands_to}
 use Rattle.isp_clustered.proofs.WholeLaws.{rows_same}
 use Rattle.isp_clustered.proofs.leaves.whole_leaf.Goals as goal
 

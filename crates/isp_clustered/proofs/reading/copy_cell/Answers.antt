@@ -1,7 +1,7 @@
 use Rattle.std.proofs.Common.{◌∙◌, ap}
 use Rattle.isp_disk.specs.Moments.{image_of, slice}
-use Rattle.isp_clustered.specs.declared.cells.Cell.{Cell}
-use Rattle.isp_clustered.proofs.CellLaws.{first_stands}
+use Rattle.isp_cells.specs.declared.cells.Cell.{Cell}
+use Rattle.isp_cells.proofs.CellLaws.{first_stands}
 use Rattle.isp_clustered.proofs.reading.copy_cell.Goals as goal
 
 pub returns : goal.returns

@@ -1,5 +1,5 @@
 use Rattle.isp_disk.specs.Moments.{image_of}
-use Rattle.isp_clustered.proofs.CellLaws.{kept_none, kept_there}
+use Rattle.isp_clustered.proofs.KeptLaws.{kept_none, kept_there}
 use Rattle.isp_clustered.proofs.reading.kept_at.Goals as goal
 
 pub returns-in_ok-kept-in-Some : goal.returns-in_ok-kept-in-Some

@@ -12,4 +12,4 @@ returns-clause-space g c tells s is beside =
     let r = c.in_ok-replace.ensures in
     let added : IsSpace (g.P.Pages.shape c.add_bytes.new.pages).pages mid t = c.in_ok-add_bytes.ensures.added tells s is in
     let shape = ap (λ (shape : FileShape). shape.pages) r.kept.keeps.same_shape in
-    subst (λ (n : ℕ). IsSpace n new t) (sym shape) (space_beside _ mid new c.args.root.0 t (r.others tells) beside added)
+    subst (λ (n : ℕ). IsSpace n new t) (sym shape) (space_beside _ mid new c.args.page.0 t (r.others tells) beside added)

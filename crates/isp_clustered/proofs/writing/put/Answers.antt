@@ -1,26 +1,29 @@
-use Rattle.std.proofs.Common.{rules, ℕ, ℤ, List, [], ◌∷◌, length, sym, ◌∙◌, ap, subst, arith}
+use Rattle.std.proofs.Common.{rules, ℕ, ℤ, List, Option, [], ◌∷◌, length, sym, ◌∙◌, ap, subst, arith}
 use Rattle.std.specs.Int.{w64}
 use Rattle.std.proofs.lemmas.Int.{to_z-of_z}
 use Rattle.isp_format.specs.Ranges.{Contents, page_of}
 use Rattle.isp_page.specs.State.{FileShape, is_among}
 use Rattle.isp_page.specs.Touched.{KeepsPages}
-use Rattle.isp_space.proofs.SpaceLaws.{space_behind}
-use Rattle.isp_clustered.specs.Rows.{is_fitting, with_put}
-use Rattle.isp_clustered.specs.Trees.{IsLeaf, rows_of}
-use Rattle.isp_clustered.proofs.CellLaws.{none_not}
-use Rattle.isp_clustered.proofs.ChangeLaws.{apart_of, put_tree}
 use Rattle.isp_space.proofs.ChangesLaws.{behind_read}
-use Rattle.isp_clustered.proofs.TreeLaws.{leaf_read, tree_leaf}
+use Rattle.isp_space.proofs.SpaceLaws.{space_behind}
+use Rattle.isp_cells.specs.LeafPages.{IsLeaf}
+use Rattle.isp_cells.specs.Rows.{is_fitting, with_put}
+use Rattle.isp_cells.proofs.CellLaws.{none_not}
+use Rattle.isp_levels.specs.Levels.{TreeLeaf, first_page}
+use Rattle.isp_clustered.specs.Found.{IsFoundLeaf}
+use Rattle.isp_clustered.specs.Puts.{IsApart}
+use Rattle.isp_clustered.specs.Trees.{fits_on}
+use Rattle.isp_clustered.proofs.ChangeLaws.{page_apart, page_from, put_tree}
 use Rattle.isp_clustered.proofs.writing.put.Goals as goal
 
-pub returns-in_err-used-clause-sound : goal.returns-in_err-used-clause-sound
-returns-in_err-used-clause-sound g c tells table tree s can fitting =
-    let sound = c.in_err-used.ensures.sound tells table 0 (rows_of tree) (tree_leaf _ _ table _ tree can.is_tree).page in
+pub returns-in_err-leaf-clause-sound : goal.returns-in_err-leaf-clause-sound
+returns-in_err-leaf-clause-sound g c tells table tree s can fitting =
+    let sound = c.in_err-leaf.ensures.sound tells table tree can.is_tree in
     search (rules, sound, c.from_residual.ensures)
 
 pub returns-in_ok-count_and_replace-in-Some-clause-changes : goal.returns-in_ok-count_and_replace-in-Some-clause-changes
 returns-in_ok-count_and_replace-in-Some-clause-changes g c =
-    let u = c.in_ok-used.ensures.reads in
+    let u = c.in_ok-leaf.ensures.reads in
     let w = c.in_ok-count_and_replace-in-Some.ensures.changes in
     record {
       kept = search rules;
@@ -31,27 +34,30 @@ returns-in_ok-count_and_replace-in-Some-clause-changes g c =
 
 pub returns-in_ok-count_and_replace-in-Some-clause-put : goal.returns-in_ok-count_and_replace-in-Some-clause-put
 returns-in_ok-count_and_replace-in-Some-clause-put g c tells table tree s can =
-    let root = c.args.root.0 in
     let old = g.P.Pages.contents c.args.pages.now in
     let new = g.P.Pages.contents c.count_and_replace.new.pages in
-    let rows = rows_of tree in
     let is = can.is_tree in
-    let u = c.in_ok-used.ensures in
+    let u = c.in_ok-leaf.ensures in
     let w = c.in_ok-count_and_replace-in-Some.ensures in
+    let page = c.in_ok-leaf.leaf.page.0 in
     let key = to_z-of_z w64 c.args.key c.ranges.key in
-    let leaf = leaf_read _ old table root tree _ is (u.page tells) in
-    let put = subst (λ (k : ℤ). IsLeaf c.in-Some.new.bytes table root 0 (with_put k c.args.row.now rows)) key (c.in-Some.ensures.page table root 0 rows leaf (u.stand table 0 rows leaf.page)) in
-    let read = u.page tells ∙ sym (ap (λ (contents : Contents). page_of contents root) (u.reads.contents tells)) in
-    let there : IsLeaf (page_of new root) table root 0 (with_put c.args.key c.args.row.now rows) = subst (λ (bytes : List ℕ). IsLeaf bytes table root 0 (with_put c.args.key c.args.row.now rows)) (sym (w.page tells is.from read)) put in
-    let keeps = subst (λ (c : Contents). KeepsPages (λ page. is_among page (0 ∷ root ∷ [])) c new) (u.reads.contents tells) (w.changes.changes.others tells) in
+    let f : IsFoundLeaf c.find_leaf.new.into.bytes page c.in_ok-leaf.leaf.used table c.args.key tree = subst (λ (k : ℤ). IsFoundLeaf c.find_leaf.new.into.bytes page c.in_ok-leaf.leaf.used table k tree) key (c.in_ok-leaf.ensures.leaf tells table tree is) in
+    let rows = f.leaf.rows in
+    let next = first_page f.at.after in
+    let put = subst (λ (k : ℤ). IsLeaf c.in-Some.new.bytes table page next (with_put k c.args.row.now rows)) key (c.in-Some.ensures.page table page next rows f.stands f.used_is) in
+    let read = u.bytes tells ∙ sym (ap (λ (contents : Contents). page_of contents page) (u.reads.contents tells)) in
+    let from = page_from _ _ table _ tree _ _ page _ is f in
+    let there : IsLeaf (page_of new page) table page next (with_put c.args.key c.args.row.now rows) = subst (λ (bytes : List ℕ). IsLeaf bytes table page next (with_put c.args.key c.args.row.now rows)) (sym (w.put tells from read)) put in
+    let keeps = subst (λ (c : Contents). KeepsPages (λ other. is_among other (0 ∷ page ∷ [])) c new) (u.reads.contents tells) (w.changes.changes.others tells) in
     let pages = λ (shape : FileShape). shape.pages in
     let shape_read = ap pages u.reads.kept.keeps.same_shape in
     let space = space_behind _ _ _ _ s shape_read (u.reads.contents tells) can.is_space in
-    put_tree _ _ old new table root tree s c.args.key c.args.row.now is (ap pages w.changes.kept.keeps.same_shape ∙ shape_read) there (w.space tells s space (apart_of _ old table root tree s is can.beside)) keeps
+    let apart : IsApart page s = subst (λ (p : ℕ). IsApart p s) f.page_is (page_apart f.leaf tree s c.args.key f.at can.beside) in
+    put_tree _ _ old new table c.args.root.0 tree s c.args.key c.args.row.now _ page _ is (ap pages w.changes.kept.keeps.same_shape ∙ shape_read) f there (w.space tells s space apart) keeps
 
 pub returns-in_err-count_and_replace-in-Some-clause-sound : goal.returns-in_err-count_and_replace-in-Some-clause-sound
 returns-in_err-count_and_replace-in-Some-clause-sound g c tells table tree s can fitting =
-    let u = c.in_ok-used.ensures in
+    let u = c.in_ok-leaf.ensures in
     let pages = λ (shape : FileShape). shape.pages in
     let space = space_behind _ _ _ _ s (ap pages u.reads.kept.keeps.same_shape) (u.reads.contents tells) can.is_space in
     let few = can.counted in
@@ -61,9 +67,9 @@ returns-in_err-count_and_replace-in-Some-clause-sound g c tells table tree s can
 
 pub returns-in-None-clause-sound : goal.returns-in-None-clause-sound
 returns-in-None-clause-sound g c tells table tree s can fitting =
-    let root = c.args.root.0 in
-    let rows = rows_of tree in
-    let u = c.in_ok-used.ensures in
+    let page = c.in_ok-leaf.leaf.page.0 in
     let key = to_z-of_z w64 c.args.key c.ranges.key in
-    let leaf = leaf_read _ _ table root tree _ can.is_tree (u.page tells) in
-    absurd (none_not c.put_in.result c.in-None.is (c.put_in.ensures.some table root 0 rows leaf (u.stand table 0 rows leaf.page) (ap (λ (k : ℤ). is_fitting k (length c.args.row.now) rows) key ∙ fitting)))
+    let f : IsFoundLeaf c.find_leaf.new.into.bytes page c.in_ok-leaf.leaf.used table c.args.key tree = subst (λ (k : ℤ). IsFoundLeaf c.find_leaf.new.into.bytes page c.in_ok-leaf.leaf.used table k tree) key (c.in_ok-leaf.ensures.leaf tells table tree can.is_tree) in
+    let rows = f.leaf.rows in
+    let fits = sym (ap (λ (o : Option TreeLeaf). fits_on c.args.key (length c.args.row.now) o) f.picked) ∙ fitting in
+    absurd (none_not c.put_in.result c.in-None.is (c.put_in.ensures.some table _ (first_page f.at.after) rows f.stands f.used_is (ap (λ (k : ℤ). is_fitting k (length c.args.row.now) rows) key ∙ fits)))

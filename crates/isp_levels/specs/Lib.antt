@@ -1,0 +1,5 @@
+pub mod Dividing
+pub mod Edits
+pub mod Inners
+pub mod Levels
+pub mod Walks
