@@ -19,11 +19,11 @@ use Rattle.isp_clustered.specs.Trees.{IsTree, Tree, pages_of, rows_of}
 use Rattle.isp_clustered.proofs.TreeLaws.{tree_rises, tree_same}
 use Rattle.isp_image.specs.Databases.{Database, FileImage, FileRow, FileTable, image_of, kind_of, row_key}
 use Rattle.isp_image.specs.Courses.{names}
-use Rattle.isp_image.specs.Files.{IsFileImage, IsFileRow, IsFileTable, IsOldRow, IsSpelling, KeptFile, Owner, Owns, OwnsSpace, nobody, no_slots, of_table}
+use Rattle.isp_image.specs.Files.{IsFileImage, IsFileRow, IsFileTable, IsOldRow, IsSpelling, KeptFile, Owner, Owns, OwnsSpace, is_known, nobody, no_slots, of_table}
 use Rattle.isp_image.specs.Keyed.{IsBelowEach, RisesBy, found, placed}
 use Rattle.isp_image.proofs.KeyedLaws.{found_each, found_key, found_placed, key_is, same_key}
-use Rattle.isp_image.proofs.ListLaws.{all_of, each_set, get_other, get_set, map_set_same, not_among}
-use Rattle.isp_image.proofs.OwnerLaws.{after_takes, apart, nobody_none, tables_differ, takes_grow, takes_shared, takes_stay}
+use Rattle.isp_image.proofs.ListLaws.{all_of, each_set, get_below, get_other, get_set, length_set, map_set_same, not_among}
+use Rattle.isp_image.proofs.OwnerLaws.{after_takes, apart, nobody_none, tables_differ, table_known, takes_grow, takes_known, takes_shared, takes_stay}
 
 abbrev pub def_of : FileTable → TableDef
 def_of t = t.def
@@ -98,6 +98,7 @@ kept_changed pages old new d place t tree rows count bytes images kept is change
       owner = owner;
       shared = record { free = shared.free; first = shared.first; used = shared.used; never = shared.never };
       trees = each_set (λ n (u : FileTable). Owns owner (of_table (suc n)) (pages_of u.tree)) d.tables place t now is mine (λ m u differ got. theirs m u differ got);
+      known = λ page. ap (λ (n : ℕ). is_known n (owner page)) (length_set d.tables place now) ∙ takes_known count d.space (suc place) (length d.tables) kept.owner (table_known place (length d.tables) (get_below d.tables place t is)) kept.known page;
     }
   where
     now : FileTable

@@ -4,6 +4,7 @@ pub mod ListLaws
 pub mod LocalLaws
 pub mod OwnerLaws
 pub mod SeenLaws
+pub mod ShownLaws
 pub mod StepLaws
 pub mod StoredLaws
 pub mod TreeChanges

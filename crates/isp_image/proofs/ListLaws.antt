@@ -39,6 +39,11 @@ module _ {X : Type 0} where
   length_set (z ∷ xs) zero x = refl
   length_set (z ∷ xs) (suc n) x = ap suc (length_set xs n x)
 
+  pub get_below : (xs : List X) (n : ℕ) (x : X) → slice_get xs n ≡ Some x → n < length xs
+  get_below [] n x is = let bad : None ≡ Some x = is in cc
+  get_below (z ∷ xs) zero x is = omega arith
+  get_below (z ∷ xs) (suc n) x is = let rest = get_below xs n x is in omega (arith, rest)
+
   -- what is said of the others, and of the one that is set
   pub each_set : (P : ℕ → X → Type 0) (xs : List X) (n : ℕ) (x y : X) → slice_get xs n ≡ Some x → P n y → ((m : ℕ) (z : X) → (n ≡ m → ⊥) → slice_get xs m ≡ Some z → P m z)
       → (m : ℕ) (z : X) → slice_get (slice_set xs n y) m ≡ Some z → P m z

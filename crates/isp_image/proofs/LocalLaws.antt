@@ -54,6 +54,7 @@ kept_local pages old new db kept same =
       owner = kept.owner;
       shared = kept.shared;
       trees = kept.trees;
+      known = kept.known;
     }
   where
     keeps_all : KeepsPages (unused db.space.fresh) old new

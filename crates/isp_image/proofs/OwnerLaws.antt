@@ -1,11 +1,12 @@
 -- Who has which page, where a table's tree takes pages that were free.
 use Rattle.std.proofs.Common.{◌≡◌, ℕ, zero, suc, ◌+◌, ◌<◌, ◌≤◌, ◌==◌, Bool, true, false, List, [], ◌∷◌, refl, sym, ◌∙◌, ap, arith, if◌then◌else◌}
-use Rattle.std.specs.Prelude.{◌≢◌, nat_le}
+use Rattle.std.specs.Prelude.{◌≢◌, ◌&&◌, nat_le}
+use Rattle.std.proofs.lemmas.Bool.{and_from, and_parts}
 use Rattle.std.proofs.lemmas.Bool.Decides.{nat_tests}
 use Rattle.isp_base.specs.Lists.{times}
 use Rattle.isp_space.specs.Spaces.{Space, fresh_after, next_free, next_of, rest_of, taken}
 use Rattle.isp_clustered.specs.Puts.{takes, taken_times}
-use Rattle.isp_image.specs.Files.{Owner, Owns, OwnsSpace, is_owner, nobody, of_free, of_slot, of_table}
+use Rattle.isp_image.specs.Files.{Owner, Owns, OwnsSpace, is_known, is_owner, nobody, of_free, of_slot, of_table}
 use Rattle.isp_image.proofs.ListLaws.{counted, page_itself}
 
 bool_bad : false ≡ true → ⊥
@@ -75,12 +76,12 @@ from_first owner page some first = by (nat_le 16 page) refl
     by true is = grind (arith, nat_tests, is)
     by false is = let less : page < 16 = grind (arith, nat_tests, is) in absurd (some (first page less))
 
-next_from : (owner : ℕ → Owner) (free : List ℕ) (fresh : ℕ) → Owns owner of_free free → ((p : ℕ) → p < 16 → owner p ≡ nobody) → 16 ≤ fresh → 16 ≤ next_of free fresh
+pub next_from : (owner : ℕ → Owner) (free : List ℕ) (fresh : ℕ) → Owns owner of_free free → ((p : ℕ) → p < 16 → owner p ≡ nobody) → 16 ≤ fresh → 16 ≤ next_of free fresh
 next_from owner [] fresh has first from = from
 next_from owner (page ∷ rest) fresh has first from = from_first owner page (not_nobody owner page (front_free owner page rest has)) first
 
 -- the next page isn't a table's
-next_owner : (owner : ℕ → Owner) (free : List ℕ) (fresh n : ℕ) → Owns owner of_free free → ((p : ℕ) → fresh ≤ p → owner p ≡ nobody) → is_owner (of_table n) (owner (next_of free fresh)) ≡ false
+pub next_owner : (owner : ℕ → Owner) (free : List ℕ) (fresh n : ℕ) → Owns owner of_free free → ((p : ℕ) → fresh ≤ p → owner p ≡ nobody) → is_owner (of_table n) (owner (next_of free fresh)) ≡ false
 next_owner owner [] fresh n has never = ap (is_owner (of_table n)) (never fresh (omega arith))
 next_owner owner (page ∷ rest) fresh n has never = free_differs n (owner page) (front_free owner page rest has)
 
@@ -190,3 +191,45 @@ takes_grow (suc k) s n owner xs ys has from mine sum =
     takes_grow k (taken s) n (given (of_table n) (next_free s) owner) (next_free s ∷ xs) ys (taken_shared owner n s has from) (fresh_on s.free s.fresh from)
     (taken_grows owner n (next_free s) xs (next_owner owner s.free s.fresh n has.free has.never) mine)
     (λ page. let one = sum page in omega (arith, one))
+
+-- ---- owners that are there
+
+pub takes_known : (k : ℕ) (s : Space) (n tables : ℕ) (owner : ℕ → Owner) → is_known tables (of_table n) ≡ true → ((page : ℕ) → is_known tables (owner page) ≡ true) → (page : ℕ) → is_known tables (after_takes k s n owner page) ≡ true
+takes_known zero s n tables owner is all page = all page
+takes_known (suc k) s n tables owner is all page = takes_known k (taken s) n tables (given (of_table n) (next_free s) owner) is (λ p. by p (next_free s == p)) page
+  where
+    by : (p : ℕ) (b : Bool) → is_known tables (if b then of_table n else owner p) ≡ true
+    by p true = is
+    by p false = all p
+
+le_test : (a b : ℕ) → a ≤ b → nat_le a b ≡ true
+le_test a b is = grind (arith, nat_tests, is)
+
+test_le : (a b : ℕ) → nat_le a b ≡ true → a ≤ b
+test_le a b is = grind (arith, nat_tests, is)
+
+pub table_known : (place tables : ℕ) → place < tables → is_known tables (of_table (suc place)) ≡ true
+table_known place tables below = and_from (nat_le 1 (suc place)) (nat_le (suc place) tables) (le_test 1 (suc place) (omega arith)) (le_test (suc place) tables (omega (arith, below)))
+
+-- a table that isn't there has no page
+pub table_none : (tables n : ℕ) (owner : ℕ → Owner) → tables < n → ((page : ℕ) → is_known tables (owner page) ≡ true) → Owns owner (of_table n) []
+table_none tables n owner above all page = by (owner page) (all page)
+  where
+    far : (k : ℕ) → (nat_le 1 k && nat_le k tables) ≡ true → (n == k) ≡ false
+    far k is = let most = test_le k tables (and_parts (nat_le 1 k) (nat_le k tables) is).1 in grind (arith, most, above)
+
+    by : (w : Owner) → is_known tables w ≡ true → 0 ≡ counted (is_owner (of_table n) w)
+    by nobody is = refl
+    by of_free is = refl
+    by (of_table k) is = sym (ap counted (far k is))
+    by (of_slot k) is = refl
+
+-- one table more
+pub known_more : (tables : ℕ) (w : Owner) → is_known tables w ≡ true → is_known (suc tables) w ≡ true
+known_more tables nobody is = refl
+known_more tables of_free is = refl
+known_more tables (of_table k) is =
+    let parts = and_parts (nat_le 1 k) (nat_le k tables) is in
+    let most = test_le k tables parts.1 in
+    and_from (nat_le 1 k) (nat_le k (suc tables)) parts.0 (le_test k (suc tables) (omega (arith, most)))
+known_more tables (of_slot k) is = absurd (bool_bad is)

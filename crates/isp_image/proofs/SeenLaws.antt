@@ -71,7 +71,7 @@ entry_of (Some r) = if r.stored.marked then None else Some (r.stored.key, r.row)
 abbrev front_of : Bool → Entry → List Entry → List Entry
 front_of marked e rows = if marked then rows else e ∷ rows
 
-below_shown : (key : ℤ) (rows : List FileRow) → IsBelowEach row_key key rows → IsBelowEach entry_key key (shown rows)
+pub below_shown : (key : ℤ) (rows : List FileRow) → IsBelowEach row_key key rows → IsBelowEach entry_key key (shown rows)
 below_shown key [] all = tt
 below_shown key (r ∷ rows) all = by r.stored.marked (below_shown key rows all.1)
   where

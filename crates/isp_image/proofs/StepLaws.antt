@@ -1,15 +1,18 @@
 -- What the steps of a file do to its tables: those of now change at one row, the committed ones at a commit alone.
-use Rattle.std.proofs.Common.{◌≡◌, ℕ, ℤ, Bool, true, List, [], ◌∷◌, ◌++◌, map, Option, Some, None, refl, sym, ◌∙◌, ap, subst, if◌then◌else◌}
+use Rattle.std.proofs.Common.{◌≡◌, ℕ, ◌==◌, ℤ, Bool, true, false, List, [], ◌∷◌, ◌++◌, map, Option, Some, None, refl, sym, ◌∙◌, ap, subst, arith, if◌then◌else◌}
+use Rattle.std.specs.Prelude.{◌&&◌, slice_get, slice_set}
+use Rattle.std.specs.Ordering.{int_eq}
+use Rattle.std.proofs.lemmas.Int.{ints}
 use Rattle.isp_format.specs.Ranges.{Contents}
 use Rattle.isp_plain.specs.Tables.{Table}
 use Rattle.isp_changes.specs.Changes.{after_change, after_changes}
-use Rattle.isp_image.specs.Courses.{Course, Exchanges, IsCommitted, IsDropped, IsKept, IsUndone, IsWritten, Reaches, Step, change_at, stood, stood_at}
+use Rattle.isp_image.specs.Courses.{ChangesOnly, Course, Exchanges, IsCommitted, IsDropped, IsKept, IsUndone, IsWritten, Reaches, Step, change_at, stood, stood_at}
 use Rattle.isp_image.specs.Databases.{Database, FileImage, FileRow, FileTable, back_of, committed, image_of, put_back, row_key, shown, table_of, tables_of}
 use Rattle.isp_image.specs.Files.{KeptFile}
 use Rattle.isp_image.specs.Keyed.{IsAtKey, RisesBy, found, placed}
-use Rattle.isp_image.proofs.FileLaws.{rises_in}
-use Rattle.isp_image.proofs.ListLaws.{map_set_same}
-use Rattle.isp_image.proofs.KeyedLaws.{placed_back}
+use Rattle.isp_image.proofs.FileLaws.{def_of, rises_in}
+use Rattle.isp_image.proofs.ListLaws.{get_other, get_set, map_set_same}
+use Rattle.isp_image.proofs.KeyedLaws.{found_placed, placed_back}
 use Rattle.isp_image.proofs.SeenLaws.{back_is, entry_of, exchanged_is, goes_back, shown_placed, entry_key}
 
 some_table : (a b : FileTable) → Some a ≡ Some b → a ≡ b
@@ -68,6 +71,37 @@ committed_now old new is = ap (map table_of) is.tables
 
 pub committed_stand : (old new : Database) → IsCommitted old new → committed new ≡ tables_of old
 committed_stand old new is = λ i. put_back (is.images i) (map table_of (is.tables i))
+
+-- ---- all other rows stay
+
+-- what stands at a key once a row of one table is exchanged
+pub exchanged_only : (pages : ℕ) (contents : Contents) (old new : Database) (place : ℕ) (key : ℤ) (one : Option FileRow) → KeptFile pages contents old → IsAtKey row_key key one → Exchanges place key one old new
+    → ChangesOnly place key old new
+exchanged_only pages contents old new place key one kept at is =
+    record {
+      defs = ap (map def_of) is.tables ∙ map_set_same def_of old.tables place is.table now is.is_there refl;
+      others = λ p k apart. ap (λ (tables : List FileTable). stood k (slice_get tables p)) is.tables ∙ by p k (place == p) refl apart;
+    }
+  where
+    now : FileTable
+    now = record { def = is.table.def; tree = is.tree; rows = placed row_key key one is.table.rows }
+
+    differ : (a b : ℕ) → (a == b) ≡ false → a ≡ b → ⊥
+    differ a b no_same same = let at : (a == b) ≡ true = grind (arith, same) in let bad : true ≡ false = sym at ∙ no_same in cc
+
+    turned : (a b : ℤ) → int_eq a b ≡ false → int_eq b a ≡ false
+    turned a b apart = grind (arith, ints, apart)
+
+    by : (p : ℕ) (k : ℤ) (b : Bool) → (place == p) ≡ b → (b && int_eq key k) ≡ false → stood k (slice_get (slice_set old.tables place now) p) ≡ stood k (slice_get old.tables p)
+    by p k true same apart =
+        let here : place ≡ p = grind (arith, same) in
+        let after : slice_get (slice_set old.tables place now) p ≡ Some now = ap (slice_get (slice_set old.tables place now)) (sym here) ∙ get_set old.tables place is.table now is.is_there in
+        let before : slice_get old.tables p ≡ Some is.table = ap (slice_get old.tables) (sym here) ∙ is.is_there in
+        ap (stood k) after
+        ∙ found_placed row_key k key one is.table.rows at (rises_in pages contents old place is.table kept is.is_there)
+        ∙ ap (λ (b : Bool). if b then one else found row_key k is.table.rows) (turned key k apart)
+        ∙ sym (ap (stood k) before)
+    by p k false no_same apart = ap (stood k) (get_other old.tables place p now (differ place p no_same))
 
 -- ---- courses
 

@@ -3,7 +3,6 @@ use Rattle.std.proofs.Common.{◌≡◌, ℕ, zero, suc, ◌+◌, ◌<◌, ◌�
 use Rattle.std.specs.Prelude.{◌&&◌, nat_le, nat_lt, slice_get}
 use Rattle.std.specs.List.{AllByRecursion}
 use Rattle.std.proofs.lemmas.Bool.Decides.{nat_tests}
-use Rattle.std.proofs.lemmas.List.{append-nil}
 use Rattle.isp_base.specs.Lists.{times}
 use Rattle.isp_format.specs.Leaf.{Stored}
 use Rattle.isp_format.specs.Ranges.{Contents}
@@ -15,7 +14,8 @@ use Rattle.isp_space.proofs.SpaceLaws.{chain_same}
 use Rattle.isp_clustered.specs.Puts.{CanPut, IsBeside, IsPut, most_put}
 use Rattle.isp_clustered.specs.Rows.{exchanged, may_put, new_row, with_put}
 use Rattle.isp_clustered.specs.Trees.{IsEdited, IsTree, Tree, TreeLeaf, on_leaf, on_leaves, pages_of, rows_of}
-use Rattle.isp_clustered.proofs.TreeLaws.{rows_are}
+use Rattle.isp_clustered.proofs.TreeLaws.{edited_rows}
+use Rattle.isp_levels.specs.Edits.{ChangesAt}
 use Rattle.isp_image.specs.Databases.{Database, FileRow, FileTable, row_key}
 use Rattle.isp_image.specs.Files.{IsFileRow, KeptFile, Owner, Owns, is_owner, nobody, of_free, of_slot, of_table}
 use Rattle.isp_image.specs.Keyed.{placed}
@@ -155,19 +155,14 @@ map_pages change (leaf ∷ leaves) = λ i. leaf.page ∷ map_pages change leaves
 pub edited_pages : (change : List Stored → List Stored) (tree : Tree) → pages_of (on_leaves change tree) ≡ pages_of tree
 edited_pages change tree = λ i. map_pages change tree.leaves i ++ tree.inner
 
--- For now a tree is one leaf.
-pub edited_rows : (change : List Stored → List Stored) (pages : ℕ) (contents : Contents) (table root : ℕ) (tree : Tree) → IsTree pages contents table root tree → rows_of (on_leaves change tree) ≡ change (rows_of tree)
-edited_rows change pages contents table root tree is =
-    ap (λ (t : Tree). rows_of (on_leaves change t)) is.is ∙ append-nil (change is.rows) ∙ ap change (sym (rows_are root is.rows tree is.is))
-
-pub edited_regrown : (pages : ℕ) (old new : Contents) (d : Database) (place : ℕ) (t : FileTable) (change : List Stored → List Stored) (rows : List FileRow) → KeptFile pages old d → slice_get d.tables place ≡ Some t
+pub edited_regrown : {key : ℤ} (pages : ℕ) (old new : Contents) (d : Database) (place : ℕ) (t : FileTable) (change : List Stored → List Stored) (rows : List FileRow) → ChangesAt key change → KeptFile pages old d → slice_get d.tables place ≡ Some t
     → IsEdited pages old new (suc place) t.def.root.0 t.tree change → change (map stored_of t.rows) ≡ map stored_of rows → AllByRecursion (IsFileRow t.def.schema) rows
     → Regrown pages old new d place t (on_leaves change t.tree) rows 0 d.space.bytes
-edited_regrown pages old new d place t change rows kept is edited rows_are_now spelled =
+edited_regrown {key = key} pages old new d place t change rows changes kept is edited rows_are_now spelled =
     let was = kept.each place t is in
     record {
       is_tree = edited.is_tree;
-      rows_are = edited_rows change pages old (suc place) t.def.root.0 t.tree was.tree ∙ ap change was.rows ∙ rows_are_now;
+      rows_are = edited_rows key change pages old (suc place) t.def.root.0 t.tree changes was.tree ∙ ap change was.rows ∙ rows_are_now;
       spelled = spelled;
       pages_are = λ page. let same = ap (times page) (edited_pages change t.tree) in omega (arith, same);
       is_space = space_stays pages old new d place t kept is edited.others;

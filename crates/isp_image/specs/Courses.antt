@@ -1,5 +1,5 @@
 -- How a file goes from one database to another: by steps of one row of one table, each of them kept in some contents.
-use Rattle.std.specs.Prelude.{◌≡◌, ◌⊎◌, ℕ, suc, ◌+◌, ◌≤◌, ◌==◌, ◌&&◌, ℤ, Bool, true, false, List, [], ◌∷◌, ◌++◌, length, slice_get, slice_set, Option, Some, None}
+use Rattle.std.specs.Prelude.{◌≡◌, ◌⊎◌, ℕ, suc, ◌+◌, ◌≤◌, ◌==◌, ◌&&◌, ℤ, Bool, true, false, List, [], ◌∷◌, ◌++◌, length, map, slice_get, slice_set, Option, Some, None}
 use Rattle.std.specs.List.{list_any}
 use Rattle.std.specs.Ordering.{int_eq}
 use Rattle.isp_format.specs.Leaf.{stored_head}
@@ -36,6 +36,11 @@ pub record IsPutSpace (size : ℕ) (old new : Space) : Type 0 where
   pub count : ℕ
   pub few : count ≤ most_put
   pub is : new ≡ (let s = taken_times count old in record s { bytes = old.bytes + (stored_head + size) })
+
+-- the tables are defined as before, and no row is another but that of this key of the table at that place
+pub record ChangesOnly (place : ℕ) (key : ℤ) (old new : Database) : Type 0 where
+  pub defs : map (λ (t : FileTable). t.def) new.tables ≡ map (λ (t : FileTable). t.def) old.tables
+  pub others : (p : ℕ) (k : ℤ) → ((place == p) && int_eq key k) ≡ false → stood_at p k new ≡ stood_at p k old
 
 -- a row is written, and what stood there is noted
 pub record IsWritten (place : ℕ) (key : ℤ) (row : FileRow) (old new : Database) : Type 0 where

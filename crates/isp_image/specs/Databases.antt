@@ -1,7 +1,8 @@
 -- What the pages of a file stand for: their space, the tables of the catalogue with their trees and rows, and the old rows that
 -- unfinished transactions noted. The tables that are committed are those of now with the old rows put back, the newest first
 -- (undo logs of the MySQL 8.0 manual).
-use Rattle.std.specs.Prelude.{ℕ, suc, pred, ◌==◌, ℤ, List, [], ◌∷◌, map, Option, Some, None, if◌then◌else◌}
+use Rattle.std.specs.Prelude.{◌≡◌, ℕ, suc, pred, ◌==◌, ℤ, false, List, [], ◌∷◌, map, Option, Some, None, if◌then◌else◌}
+use Rattle.std.specs.List.{AllByRecursion}
 use Rattle.isp_format.specs.Leaf.{Stored}
 use Rattle.isp_format.specs.Undo.{OldImage, absent_kind, marked_kind, unmarked_kind}
 use Rattle.isp_plain.specs.declared.value.Row.{Row}
@@ -47,6 +48,10 @@ shown (r ∷ rows) = if r.stored.marked then shown rows else (r.stored.key, r.ro
 abbrev pub seen : Option FileRow → Option Row
 seen None = None
 seen (Some r) = if r.stored.marked then None else Some r.row
+
+-- no row is marked
+abbrev pub HasNoMarked : Database → Type 0
+HasNoMarked db = AllByRecursion (λ (t : FileTable). AllByRecursion (λ (r : FileRow). r.stored.marked ≡ false) t.rows) db.tables
 
 abbrev pub table_of : FileTable → Table
 table_of t = record { name = t.def.name; schema = t.def.schema; rows = shown t.rows }

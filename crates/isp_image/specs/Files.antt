@@ -1,5 +1,5 @@
 -- The contents of a file that is kept: all that its pages stand for is readable, and each page in use belongs to one of them.
-use Rattle.std.specs.Prelude.{◌≡◌, ◌≢◌, ℕ, suc, pred, ◌<◌, ◌≤◌, ◌==◌, ℤ, Bool, true, false, cond, List, [], length, map, replicate, slice_get, Option, Some, None}
+use Rattle.std.specs.Prelude.{◌≡◌, ◌≢◌, ℕ, suc, pred, ◌<◌, ◌≤◌, ◌==◌, ◌&&◌, nat_le, ℤ, Bool, true, false, cond, List, [], length, map, replicate, slice_get, Option, Some, None}
 use Rattle.std.specs.List.{AllByRecursion}
 use Rattle.isp_base.specs.Lists.{times}
 use Rattle.isp_disk.specs.Moments.{Image}
@@ -11,12 +11,13 @@ use Rattle.isp_format.specs.Ranges.{Contents, page_of}
 use Rattle.isp_format.specs.Undo.{IsUndoDirectory, OldImage, absent_kind, marked_kind, undo_slots}
 use Rattle.isp_plain.specs.declared.value.Row.{Row}
 use Rattle.isp_plain.specs.declared.value.Schema.{Schema}
+use Rattle.isp_plain.specs.Lined.{is_lined_row}
 use Rattle.isp_plain.specs.Tables.{Table}
 use Rattle.isp_row.specs.RowSpelling.{Spells}
 use Rattle.isp_catalog.specs.Catalogue.{HasTables}
 use Rattle.isp_space.specs.Spaces.{Space}
 use Rattle.isp_clustered.specs.Trees.{IsTree, pages_of, rows_of}
-use Rattle.isp_image.specs.Databases.{Database, FileImage, FileRow, FileTable, committed, row_key}
+use Rattle.isp_image.specs.Databases.{Database, FileImage, FileRow, FileTable, HasNoMarked, committed, row_key}
 use Rattle.isp_image.specs.Keyed.{found}
 
 -- ---- who has a page
@@ -47,11 +48,20 @@ pub record OwnsSpace (owner : ℕ → Owner) (s : Space) : Type 0 where
   pub used : (page : ℕ) → first_fresh ≤ page → page < s.fresh → owner page ≢ nobody
   pub never : (page : ℕ) → s.fresh ≤ page → owner page ≡ nobody
 
+-- the owner is one of a file of so many tables; undo chains have no page yet
+abbrev pub is_known : ℕ → Owner → Bool
+is_known tables nobody = true
+is_known tables of_free = true
+is_known tables (of_table n) = nat_le 1 n && nat_le n tables
+is_known tables (of_slot n) = false
+
 -- ---- tables
 
--- the bytes of a row spell a row of the table
-abbrev pub IsSpelling : Schema → ℤ → List ℕ → Row → Type 0
-IsSpelling schema key bytes row = (numbers : List ℕ) × Spells schema key bytes row numbers
+-- the bytes of a row spell a row of the table, whose texts have no line feed
+pub record IsSpelling (schema : Schema) (key : ℤ) (bytes : List ℕ) (row : Row) : Type 0 where
+  pub numbers : List ℕ
+  pub spells : Spells schema key bytes row numbers
+  pub lined : is_lined_row row ≡ true
 
 abbrev pub IsFileRow : Schema → FileRow → Type 0
 IsFileRow schema r = IsSpelling schema r.stored.key r.stored.row r.row
@@ -96,6 +106,7 @@ pub record KeptFile (pages : ℕ) (contents : Contents) (db : Database) : Type 0
   pub owner : ℕ → Owner
   pub shared : OwnsSpace owner db.space
   pub trees : (place : ℕ) (t : FileTable) → slice_get db.tables place ≡ Some t → Owns owner (of_table (suc place)) (pages_of t.tree)
+  pub known : (page : ℕ) → is_known (length db.tables) (owner page) ≡ true
 
 -- the contents stand for these tables, where a transaction noted these old rows, the newest first
 pub record Stands (pages : ℕ) (contents : Contents) (images : List OldImage) (tables : List Table) : Type 0 where
@@ -104,8 +115,9 @@ pub record Stands (pages : ℕ) (contents : Contents) (images : List OldImage) (
   pub noted : map (λ (i : FileImage). i.image) db.images ≡ images
   pub stand : committed db ≡ tables
 
--- the image is that of a kept file, which stands for these tables; no transaction is unfinished
+-- the image is that of a kept file, which stands for these tables; no transaction is unfinished, and no row is marked
 pub record IsKeptFile (image : Image) (tables : List Table) : Type 0 where
   pub contents : Contents
   pub stands_for : StandsFor image contents
   pub stands : Stands (pages_in image) contents [] tables
+  pub tidy : HasNoMarked stands.db

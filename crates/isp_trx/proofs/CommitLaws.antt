@@ -19,6 +19,7 @@ kept_without pages contents d kept = record {
   owner = kept.owner;
   shared = kept.shared;
   trees = kept.trees;
+  known = kept.known;
 }
 
 is_committed : (d : Database) → IsCommitted d (without_images d)
@@ -29,6 +30,7 @@ did_commit pages contents d kept = record {
   after = without_images d;
   kept = kept_without pages contents d kept;
   none = refl;
+  tables = refl;
   now = committed_now d (without_images d) (is_committed d);
   same = committed_stand d (without_images d) (is_committed d);
   step = commits (is_committed d);

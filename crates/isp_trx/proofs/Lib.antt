@@ -1,5 +1,8 @@
 pub mod CommitLaws
+pub mod LoopLaws
 pub mod Makes
+pub mod MoreMakes
+pub mod RoomLaws
 pub mod RootLaws
 pub mod SweepLaws
 pub mod UndoLaws

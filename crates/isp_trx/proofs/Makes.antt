@@ -1,6 +1,6 @@
 -- A mini-transaction of which something holds once it is finished.
 use Rattle.std.proofs.Common.{ℕ, ◌≤◌, List, ◌∙◌, ap, subst, arith, inl, inr}
-use Rattle.std.specs.Prelude.{◌⊎◌, Bool, Ok, Err, ⊤}
+use Rattle.std.specs.Prelude.{◌⊎◌, Bool, Result, Ok, Err, ⊤}
 use Rattle.isp_format.specs.Ranges.{Contents}
 use Rattle.isp_disk.specs.Moments.{Image}
 use Rattle.isp_page.specs.Calls.{ContinuesWith, MakesWith}
@@ -47,6 +47,12 @@ makes_failed Fails g One Other old new e within makes = record {
     moments = λ t image told before had. wider_moment (g.left_since old t image told) (Or (g.may_leave old) One) (Or (g.may_leave old) Other) (g.shape old) (g.printed old) image told (wider_or (g.may_leave old) One Other (within tells)) ((makes.time tells).moments t image told before had);
   };
 }
+
+-- the same of a call that is answered as it is
+pub makes_on : {S T E : Type 0} (Fails : ℕ → ℕ → Bool → E → Type 0) (g : Ghosts S) (One Other : Contents → Type 0) (old new : S) (result : Result T E)
+    → (g.tells → (c : Contents) → One c → Other c) → MakesBy g.tells g.shape g.printed g.may_leave g.clock g.left_since g.disk_faults g.print_faults g.usable {T = T} {E = E} Fails One old new result → MakesBy g.tells g.shape g.printed g.may_leave g.clock g.left_since g.disk_faults g.print_faults g.usable {T = T} {E = E} Fails Other old new result
+makes_on Fails g One Other old new (Ok x) within makes = makes_done Fails g One Other old new x x within makes
+makes_on Fails g One Other old new (Err e) within makes = makes_failed Fails g One Other old new e within makes
 
 -- ---- behind a call that adds nothing
 

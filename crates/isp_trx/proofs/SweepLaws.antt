@@ -11,6 +11,7 @@ use Rattle.isp_clustered.specs.Cells.{kept_of}
 use Rattle.isp_clustered.specs.Rows as tree_rows
 use Rattle.isp_clustered.specs.Rows.{without}
 use Rattle.isp_clustered.specs.Trees.{IsEdited, IsTree, Tree, has_marked, on_leaves}
+use Rattle.isp_clustered.proofs.TreeLaws.{drops_at}
 use Rattle.isp_image.specs.Courses.{IsDropped, drops, names, stood}
 use Rattle.isp_image.specs.Databases.{Database, FileRow, FileTable, row_key}
 use Rattle.isp_image.specs.Files.{IsFileRow, KeptFile}
@@ -88,7 +89,7 @@ swept_one pages old new d at f x kept is marked edited =
 
     kept_now : KeptFile pages new after
     kept_now = kept_changed pages old new d place t (on_leaves (without key) t.tree) (placed row_key key None t.rows) 0 d.space.bytes d.images kept f.is_there
-        (edited_regrown pages old new d place t (without key) (placed row_key key None t.rows) kept f.is_there edited (exchanged_rows key None t.rows) (each_placed row_key (IsFileRow t.def.schema) key None t.rows tt (kept.each place t f.is_there).each))
+        (edited_regrown pages old new d place t (without key) (placed row_key key None t.rows) (drops_at key) kept f.is_there edited (exchanged_rows key None t.rows) (each_placed row_key (IsFileRow t.def.schema) key None t.rows tt (kept.each place t f.is_there).each))
         (images_dropped d.tables place t (on_leaves (without key) t.tree) key d.images f.is_there rises f.unnamed kept.noted)
 
     dropped : IsDropped place key d after

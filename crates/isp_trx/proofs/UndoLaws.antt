@@ -12,13 +12,15 @@ use Rattle.isp_changes.specs.Changes.{after_change}
 use Rattle.isp_clustered.specs.Rows.{exchanged, find, marked_at, rewritten, slot_holds, stands, with_mark, with_row}
 use Rattle.isp_clustered.specs.Trees.{IsEdited, IsTree, Tree, has, holds, on_leaves}
 use Rattle.isp_clustered.specs.declared.kept.Kept.{Kept}
+use Rattle.isp_clustered.proofs.TreeLaws.{marks_at, written_at}
+use Rattle.isp_levels.specs.Edits.{ChangesAt}
 use Rattle.isp_image.specs.Courses.{IsUndone, change_at, undoes}
 use Rattle.isp_image.specs.Databases.{Database, FileImage, FileRow, FileTable, back_of, row_key, tables_of}
 use Rattle.isp_image.specs.Files.{IsFileImage, IsFileRow, IsOldRow, IsSpelling, KeptFile}
 use Rattle.isp_image.specs.Keyed.{found, placed}
 use Rattle.isp_image.proofs.FileLaws.{images_written, kept_changed, rises_in, stored_of, with_table}
 use Rattle.isp_image.proofs.KeyedLaws.{each_placed, found_each, found_key}
-use Rattle.isp_image.proofs.StepLaws.{undone_committed, undone_now}
+use Rattle.isp_image.proofs.StepLaws.{exchanged_only, undone_committed, undone_now}
 use Rattle.isp_image.proofs.StoredLaws.{exchanged_rows, find_row}
 use Rattle.isp_image.proofs.TreeChanges.{edited_regrown}
 use Rattle.isp_trx.specs.Transactions.{old_image}
@@ -70,21 +72,22 @@ newest_of pages old image images roots root d can here = by d.images refl
 some_row : (a b : FileRow) → Some a ≡ Some b → a ≡ b
 some_row a b same = cc
 
-undid : (pages : ℕ) (old new : Contents) (image : OldImage) (root : ℕ) (d : Database) (n : Newest image root d) (r : FileRow) (change : List Stored → List Stored) → KeptFile pages old d
+undid : (pages : ℕ) (old new : Contents) (image : OldImage) (root : ℕ) (d : Database) (n : Newest image root d) (r : FileRow) (change : List Stored → List Stored) → ChangesAt n.i.image.key change → KeptFile pages old d
     → r.stored.key ≡ n.i.image.key → slot_of n.f.row.stored ≤ slot_of r.stored → IsFileRow n.f.table.def.schema r → back_of n.i ≡ change_at (pred n.i.image.table) n.i.image.key (Some r)
     → change (map stored_of n.f.table.rows) ≡ map stored_of (placed row_key n.i.image.key (Some r) n.f.table.rows)
     → IsEdited pages old new (suc (pred n.i.image.table)) n.f.table.def.root.0 n.f.table.tree change → Undid pages new d
-undid pages old new image root d n r change kept at slot spells back rows edited =
+undid pages old new image root d n r change changes kept at slot spells back rows edited =
     record {
       after = after;
       kept = kept_changed pages old new d place t (on_leaves change t.tree) (placed row_key key (Some r) t.rows) 0 d.space.bytes n.rest kept n.f.is_there
-          (edited_regrown pages old new d place t change (placed row_key key (Some r) t.rows) kept n.f.is_there edited rows (each_placed row_key (IsFileRow t.def.schema) key (Some r) t.rows spells (kept.each place t n.f.is_there).each))
+          (edited_regrown pages old new d place t change (placed row_key key (Some r) t.rows) changes kept n.f.is_there edited rows (each_placed row_key (IsFileRow t.def.schema) key (Some r) t.rows spells (kept.each place t n.f.is_there).each))
           (images_written d.tables place t (on_leaves change t.tree) key r n.rest n.f.is_there at (rises_in pages old d place t kept n.f.is_there) slots n.others);
       image = n.i;
       noted = n.is;
       now = undone_now pages old d after place key r kept undone ∙ sym (ap (after_change (tables_of d)) back);
       same = undone_committed pages old d after place key r kept undone;
       step = undoes place key r undone;
+      only = exchanged_only pages old d after place key (Some r) kept at undone.exchanges;
     }
   where
     t : FileTable
@@ -140,7 +143,7 @@ mark_call pages pages_now old new at root key key_is shape call images roots her
       let same_key : key ≡ n.i.image.key = key_is ∙ sym (ap (λ (o : OldImage). o.key) n.same) in
       let spells : IsFileRow n.f.table.def.schema r = found_each row_key (IsFileRow n.f.table.def.schema) n.i.image.key n.f.table.rows x (can.kept.each (pred n.i.image.table) n.f.table n.f.is_there).each n.f.stands in
       let edited = edited_at pages pages_now old new d (pred n.i.image.table) n.f.table root (marked_at key) can.kept n.f.is_there n.root_is shape call in
-      undid pages old new (old_image at None) root d n r (marked_at n.i.image.key) can.kept own (omega arith) spells (kind_back n.i x (ap (λ (o : OldImage). o.kind) n.same)) (marked_rows n.i.image.key n.f.table.rows x n.f.stands)
+      undid pages old new (old_image at None) root d n r (marked_at n.i.image.key) (marks_at n.i.image.key) can.kept own (omega arith) spells (kind_back n.i x (ap (λ (o : OldImage). o.kind) n.same)) (marked_rows n.i.image.key n.f.table.rows x n.f.stands)
       (subst (λ (k : ℤ). IsEdited pages old new (suc (pred n.i.image.table)) n.f.table.def.root.0 n.f.table.tree (marked_at k)) same_key edited);
 }
 
@@ -202,7 +205,7 @@ rewrite_call pages pages_now old new at kept root key key_is shape call images r
             let slot = same_slot kept.row kept.marked x.stored held in
             let spells : IsFileRow n.f.table.def.schema r = subst (λ (k : ℤ). IsSpelling n.f.table.def.schema k kept.row row) (sym own) (subst (λ (b : List ℕ). IsSpelling n.f.table.def.schema n.i.image.key b row) bytes means.2) in
             let edited = edited_at pages pages_now old new d (pred n.i.image.table) n.f.table root (with_row key kept.row kept.marked) can.kept n.f.is_there n.root_is shape call in
-            undid pages old new (old_image at (Some kept)) root d n r (with_row n.i.image.key kept.row kept.marked) can.kept own (omega (arith, slot)) spells (row_back n.i x kept row kind is) (written_rows n.i.image.key n.f.table.rows x kept row n.f.stands)
+            undid pages old new (old_image at (Some kept)) root d n r (with_row n.i.image.key kept.row kept.marked) (written_at n.i.image.key kept.row kept.marked) can.kept own (omega (arith, slot)) spells (row_back n.i x kept row kind is) (written_rows n.i.image.key n.f.table.rows x kept row n.f.stands)
             (subst (λ (k : ℤ). IsEdited pages old new (suc (pred n.i.image.table)) n.f.table.def.root.0 n.f.table.tree (with_row k kept.row kept.marked)) same_key edited)
 
 le_holds : (a b : ℕ) → a ≤ b → nat_le a b ≡ true

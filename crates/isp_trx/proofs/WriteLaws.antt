@@ -8,19 +8,22 @@ use Rattle.isp_format.specs.Leaf.{Stored, slot_of}
 use Rattle.isp_format.specs.Ranges.{Contents}
 use Rattle.isp_format.specs.Undo.{OldImage}
 use Rattle.isp_plain.specs.declared.value.Row.{Row}
-use Rattle.isp_changes.specs.Changes.{after_change}
+use Rattle.isp_changes.specs.Changes.{after_change, row_in}
 use Rattle.isp_space.specs.Spaces.{Space}
 use Rattle.isp_clustered.specs.Cells.{kept_of}
 use Rattle.isp_clustered.specs.Puts.{CanPut, IsPut, taken_times}
 use Rattle.isp_clustered.specs.Rows.{exchanged, find, may_put, new_row, rewritten, slot_holds, slot_less, with_row}
 use Rattle.isp_clustered.specs.Trees.{IsEdited, IsTree, Tree, fits, holds, on_leaves, rows_of}
+use Rattle.isp_clustered.proofs.TreeLaws.{written_at}
 use Rattle.isp_image.specs.Courses.{IsPutSpace, IsWritten, stood, writes}
-use Rattle.isp_image.specs.Databases.{Database, FileImage, FileRow, FileTable, image_of, row_key, tables_of}
+use Rattle.isp_image.specs.Databases.{Database, FileImage, FileRow, FileTable, image_of, row_key, seen, tables_of}
 use Rattle.isp_image.specs.Files.{IsFileRow, IsSpelling, KeptFile}
 use Rattle.isp_image.specs.Keyed.{RisesBy, found, placed}
 use Rattle.isp_image.proofs.FileLaws.{Regrown, image_noted, images_written, kept_changed, rises_in, stored_of, with_table}
 use Rattle.isp_image.proofs.KeyedLaws.{each_placed, found_key}
-use Rattle.isp_image.proofs.StepLaws.{written_committed, written_now}
+use Rattle.isp_image.proofs.SeenLaws.{back_is}
+use Rattle.isp_image.proofs.ShownLaws.{row_in_is}
+use Rattle.isp_image.proofs.StepLaws.{exchanged_only, written_committed, written_now}
 use Rattle.isp_image.proofs.StoredLaws.{exchanged_rows, find_row}
 use Rattle.isp_image.proofs.TreeChanges.{can_put, edited_regrown, put_regrown}
 use Rattle.isp_trx.specs.Transactions.{old_image}
@@ -103,6 +106,10 @@ wrote pages old new images w d t row r can at slots spells same tree count bytes
       now = written_now pages old d after place key r can.kept written ∙ ap (λ (new_row : Option Row). after_change (tables_of d) (record { table = place; key = key; new = new_row })) same;
       same = written_committed pages old d after place key r can.kept written;
       step = writes place key r written;
+      image = image_of place key o;
+      images = refl;
+      back = back_is place key o ∙ (λ i. record { table = place; key = key; new = sym was i });
+      only = exchanged_only pages old d after place key (Some r) can.kept at written.exchanges;
     }
   where
     place : ℕ
@@ -116,6 +123,9 @@ wrote pages old new images w d t row r can at slots spells same tree count bytes
 
     rises : RisesBy row_key t.rows
     rises = rises_in pages old d place t can.kept can.is_there
+
+    was : row_in (tables_of d) place key ≡ seen o
+    was = row_in_is pages old d place key can.kept ∙ ap (λ (u : Option FileTable). seen (stood key u)) can.is_there
 
     noted_now : List FileImage
     noted_now = image_of place key o ∷ d.images
@@ -192,7 +202,7 @@ wrote_edit pages old new images w d t row can large is_edited =
     (λ y is. let same : x ≡ y = some_same x y (sym there_is.1 ∙ is) in let here : slot_of y.stored ≡ slot_of x.stored = ap (λ (z : FileRow). slot_of z.stored) (sym same) in omega (arith, here, slot))
     spells refl
     (on_leaves (with_row w.at.key w.row w.marked) t.tree) 0 d.space.bytes
-    (edited_regrown pages old new d (place_of w.at) t (with_row w.at.key w.row w.marked) (placed row_key w.at.key (Some r) t.rows) can.kept can.is_there edited rows (each_placed row_key (IsFileRow t.def.schema) w.at.key (Some r) t.rows spells file_table.each))
+    (edited_regrown pages old new d (place_of w.at) t (with_row w.at.key w.row w.marked) (placed row_key w.at.key (Some r) t.rows) (written_at w.at.key w.row w.marked) can.kept can.is_there edited rows (each_placed row_key (IsFileRow t.def.schema) w.at.key (Some r) t.rows spells file_table.each))
     (inl refl)
 
 -- ---- the calls of a tree

@@ -1,5 +1,5 @@
 -- What the calls of a transaction make of the database that the contents are, and of the tables that are committed.
-use Rattle.std.specs.Prelude.{◌≡◌, ℕ, pred, ◌≤◌, Bool, true, false, nat_lt, List, [], ◌∷◌, length, map, slice_get, Option, Some, None, if◌then◌else◌}
+use Rattle.std.specs.Prelude.{◌≡◌, ℕ, pred, ◌≤◌, ℤ, Bool, true, false, nat_lt, List, [], ◌∷◌, length, map, slice_get, take, Option, Some, None, if◌then◌else◌}
 use Rattle.std.specs.List.{AllByRecursion, list_any}
 use Rattle.std.specs.Option.{option_map}
 use Rattle.isp_clustered.specs.Cells.{kept_of}
@@ -8,10 +8,10 @@ use Rattle.isp_clustered.specs.Trees.{IsEdited, IsTree, Tree, fits, rows_of}
 use Rattle.isp_clustered.specs.declared.kept.Kept.{Kept}
 use Rattle.isp_format.specs.Ranges.{Contents}
 use Rattle.isp_format.specs.Undo.{OldImage}
-use Rattle.isp_space.specs.Spaces.{has_room}
+use Rattle.isp_space.specs.Spaces.{Space, has_room}
 use Rattle.isp_plain.specs.declared.value.Row.{Row}
-use Rattle.isp_changes.specs.Changes.{RowChange, after_change}
-use Rattle.isp_image.specs.Courses.{Reaches, Step, names, stood_at}
+use Rattle.isp_changes.specs.Changes.{RowChange, after_change, image_of}
+use Rattle.isp_image.specs.Courses.{ChangesOnly, Reaches, Step, names, stood_at}
 use Rattle.isp_image.specs.Databases.{Database, FileImage, FileRow, FileTable, back_of, committed, tables_of}
 use Rattle.isp_image.specs.Files.{IsSpelling, KeptFile}
 use Rattle.isp_trx.specs.Transactions.{old_image}
@@ -58,6 +58,15 @@ pub record CanWrite (pages : ℕ) (contents : Contents) (images : List OldImage)
 abbrev pub FitsLeaf : Write → FileTable → Type 0
 FitsLeaf w t = is_smaller (length w.row) w.old ≡ true → fits w.at.key (length w.row) t.tree ≡ true
 
+-- whether a row of so many bytes may be written at a key where that stands: there is room for one more change, and, where the row
+-- has to be put, on its leaf
+abbrev pub finds_leaf : Bool → ℤ → ℕ → Tree → Bool
+finds_leaf true key size tree = fits key size tree
+finds_leaf false key size tree = true
+
+abbrev pub can_take : ℕ → ℤ → ℕ → Option Kept → Tree → Space → Bool
+can_take pages key size old tree s = if has_room pages s then finds_leaf (is_smaller size old) key size tree else false
+
 -- the change of plain tables that it is
 abbrev pub change_of : Write → Row → RowChange
 change_of w row = record { table = place_of w.at; key = w.at.key; new = if w.marked then None else Some row }
@@ -70,6 +79,11 @@ pub record Wrote (pages : ℕ) (contents : Contents) (w : Write) (row : Row) (d 
   pub now : tables_of after ≡ after_change (tables_of d) (change_of w row)
   pub same : committed after ≡ committed d
   pub step : Step d after
+  -- what was noted, as a change of plain tables, is what stood there
+  pub image : FileImage
+  pub images : after.images ≡ image ∷ d.images
+  pub back : back_of image ≡ image_of (tables_of d) (change_of w row)
+  pub only : ChangesOnly (place_of w.at) w.at.key d after
 
 -- what the write makes of contents, whatever database they are
 pub record Writes (pages : ℕ) (old : Contents) (images : List OldImage) (w : Write) (new : Contents) : Type 0 where
@@ -95,6 +109,7 @@ pub record Undid (pages : ℕ) (contents : Contents) (d : Database) : Type 0 whe
   pub now : tables_of after ≡ after_change (tables_of d) (back_of image)
   pub same : committed after ≡ committed d
   pub step : Step d after
+  pub only : ChangesOnly (pred image.image.table) image.image.key d after
 
 abbrev pub UndidIf : ℕ → Contents → Contents → List OldImage → Database → Type 0
 UndidIf pages old new [] d = new ≡ old
@@ -110,6 +125,7 @@ pub record DidCommit (pages : ℕ) (contents : Contents) (d : Database) : Type 0
   pub after : Database
   pub kept : KeptFile pages contents after
   pub none : after.images ≡ []
+  pub tables : after.tables ≡ d.tables
   pub now : tables_of after ≡ tables_of d
   pub same : committed after ≡ tables_of d
   pub step : Step d after
@@ -162,6 +178,11 @@ pub record SweptAll (pages : ℕ) (contents : Contents) (keys : List RowKey) (d 
 -- what a sweep of keys makes of contents, once these of them are done
 pub record Sweeps (pages : ℕ) (old : Contents) (roots : List ℕ) (keys done : List RowKey) (new : Contents) : Type 0 where
   pub makes : (d : Database) → CanSweep pages old roots keys d → SweptAll pages new done d
+
+-- so many of the keys are done
+pub record SweepsSome (pages : ℕ) (old : Contents) (roots : List ℕ) (keys : List RowKey) (new : Contents) : Type 0 where
+  pub count : ℕ
+  pub sweeps : Sweeps pages old roots keys (take count keys) new
 
 -- the same of one key, on the tree of that root
 pub record SweepsAt (pages : ℕ) (old : Contents) (root : ℕ) (at : RowKey) (new : Contents) : Type 0 where

@@ -2,8 +2,9 @@
 //! one, and committed. What is noted stands in memory, which is reserved before a change, so that a
 //! transaction that has begun can be taken back and committed without more.
 //!
-//! - `noted`: keys, and what stood at one.
+//! - `noted`, `order`: keys, in their order, and what stood at one.
 //! - `trx`: a transaction as a value.
+//! - `room`: whether a row may be written.
 //! - `writing`, `undoing`, `ending`: its calls over pages, each of which finishes what it changes.
 //! - `sweeping`: marked rows that go once it has ended; `laws`: that they may go one by one.
 #![tactic(auto)]
@@ -11,6 +12,8 @@
 mod ending;
 mod laws;
 mod noted;
+mod order;
+mod room;
 mod roots;
 mod sweeping;
 mod trx;
@@ -19,5 +22,7 @@ mod writing;
 
 pub use laws::{law_sweeps_begin, law_sweeps_go_on};
 pub use noted::RowKey;
-pub use sweeping::drop_if_marked;
+pub use order::rising;
+pub use room::may_write;
+pub use sweeping::{drop_if_marked, drop_marked_rows};
 pub use trx::Trx;

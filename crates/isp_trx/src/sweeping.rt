@@ -1,13 +1,16 @@
 //! Marked rows go.
-ghost use Rattle.std.specs.Prelude.{◌≡◌, ◌<◌, ℕ, true, false, IfErr, IfOk, OnOk};
+ghost use Rattle.std.specs.Prelude.{◌≡◌, ◌<◌, ◌∷◌, [], ℕ, true, false, IfErr, IfOk, OnOk};
 ghost use Rattle.isp_clustered.specs.Calls.{HasTree};
 ghost use Rattle.isp_space.specs.Changes.{MayChange};
 ghost use Rattle.isp_clustered.specs.Trees.{Tree, has_marked};
 ghost use Rattle.isp_page.specs.Calls.{Continues, ContinuesOrLacks, MakesWith};
 ghost use Rattle.isp_page.specs.Steps.{FailsOnPages, FailsOrLacks, IsNoDamage, IsNoDamageOrLacks};
-ghost use Rattle.isp_trx.specs.Writes.{Drops, SweepsAt, kept_mark};
+ghost use Rattle.isp_image.specs.Databases.{Database};
+ghost use Rattle.isp_trx.specs.Roots.{AreWithin, numbers_of};
+ghost use Rattle.isp_trx.specs.Writes.{CanSweep, Drops, Sweeps, SweepsAt, SweepsSome, kept_mark};
 
 use crate::noted::RowKey;
+use crate::roots::root_of;
 use isp_clustered::{Kept, drop_marked, get};
 use isp_format::PageNo;
 use isp_page::{Fault, Pages, StoreFault};
@@ -132,4 +135,64 @@ pub fn drop_if_marked<P: Pages>(
         Ok(false) => Ok(()),
         Err(fault) => Err(fault),
     }
+}
+
+// The same of a key, on the tree of its table.
+fn drop_key<P: Pages>(
+    alloc: Global,
+    pages: &mut P,
+    roots: &[PageNo],
+    at: RowKey,
+) -> Result<(), Fault>
+    requires usable { P.usable pages.old ≡ true }
+    requires none { (P.mini pages.old).is_begun ≡ false }
+    requires roots { AreWithin (P.shape pages.old).pages roots.now }
+    ensures made { MakesWith FailsOrLacks P.Pages (Sweeps (P.shape pages.old).pages
+        (P.contents pages.old) (numbers_of roots.now) (at ∷ []) (at ∷ [])) pages.old pages.new
+        result }
+    ensures mini { OnOk result ((P.mini pages.new).is_begun ≡ false) }
+    ensures swept { P.tells → OnOk result (Sweeps (P.shape pages.old).pages (P.contents pages.old)
+        (numbers_of roots.now) (at ∷ []) (at ∷ []) (P.contents pages.new)) }
+    ensures sound { P.tells → (d : Database) → CanSweep (P.shape pages.old).pages
+        (P.contents pages.old) (numbers_of roots.now) (at ∷ []) d
+        → IfErr result IsNoDamageOrLacks }
+{
+    match root_of(roots, at.table) {
+        Some(root) => drop_if_marked(alloc, pages, root, at),
+        None => Err(Fault::Store(StoreFault::Damaged { page: 0, rule: 6 })),
+    }
+}
+
+/// Takes the marked rows of these keys out, in their order, each in one mini-transaction. No old row is noted of any of them. The
+/// roots are those of the tables' trees, in the order of their numbers. It takes memory.
+///
+/// # Errors
+///
+/// Disk; want of memory; or Damaged, as of `get` and `drop_marked` of isp_clustered, or with page 0 and rule 6 where there is no
+/// root of a key's table. The rows of the keys before are gone then.
+pub fn drop_marked_rows<P: Pages>(
+    alloc: Global,
+    pages: &mut P,
+    roots: &[PageNo],
+    keys: &[RowKey],
+) -> Result<(), Fault>
+    requires usable { P.usable pages.old ≡ true }
+    requires none { (P.mini pages.old).is_begun ≡ false }
+    requires roots { AreWithin (P.shape pages.old).pages roots.now }
+    ensures made { MakesWith FailsOrLacks P.Pages (SweepsSome (P.shape pages.old).pages
+        (P.contents pages.old) (numbers_of roots.now) keys.now) pages.old pages.new result }
+    ensures mini { OnOk result ((P.mini pages.new).is_begun ≡ false) }
+    ensures swept { P.tells → OnOk result (Sweeps (P.shape pages.old).pages (P.contents pages.old)
+        (numbers_of roots.now) keys.now keys.now (P.contents pages.new)) }
+    ensures sound { P.tells → (d : Database) → CanSweep (P.shape pages.old).pages
+        (P.contents pages.old) (numbers_of roots.now) keys.now d
+        → IfErr result IsNoDamageOrLacks }
+{
+    for at in keys {
+        match drop_key(alloc, pages, roots, *at) {
+            Ok(()) => {}
+            Err(fault) => return Err(fault),
+        }
+    }
+    Ok(())
 }

@@ -17,7 +17,7 @@ use isp_format::PageNo;
 use isp_page::{Pages, StoreFault};
 
 // Whether a row of so many bytes has to be put, since its key isn't there or has a smaller slot.
-fn is_put(old: &Option<Kept>, size: usize) -> bool
+pub(crate) fn is_put(old: &Option<Kept>, size: usize) -> bool
     ensures { result ≡ is_smaller size old.now }
 {
     match old {

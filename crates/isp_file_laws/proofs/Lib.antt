@@ -1,0 +1,4 @@
+pub mod EachLaws
+pub mod EmptyLaws
+pub mod KeptLaws
+pub mod RowKeyLaws

@@ -1,0 +1,77 @@
+-- The steps of a statement, on a file.
+use Rattle.std.proofs.Common.{◌≡◌, true, List, [], ◌∷◌, ◌++◌, map, refl, sym, ◌∙◌, ap, subst}
+use Rattle.isp_plain.specs.declared.refusal.Refusal.{Refusal}
+use Rattle.isp_plain.specs.Tables.{Table}
+use Rattle.isp_changes.specs.Changes.{RowChange, after_change, image_of}
+use Rattle.isp_changes.specs.Stages.{Phase, Stage, after_step, failed, stage_at, step_of, undoing, with_empty}
+use Rattle.isp_image.specs.Databases.{Database, FileImage, back_of, tables_of}
+use Rattle.isp_image.proofs.StepLaws.{reaches_more}
+use Rattle.isp_trx.specs.Writes.{change_of}
+use Rattle.isp_trx_laws.specs.FileStages.{IsStageOf}
+use Rattle.isp_trx_laws.specs.Laws.{CourseGoesOn, StageBegins, StageCreates, StageUndoes, StageWrites}
+
+pub stage_begins : StageBegins
+stage_begins d phase = record { tables = refl; since = []; images = refl; noted = refl }
+
+-- whatever comes next
+pub stage_goes_on : (before : List FileImage) (d : Database) (stage : Stage) (phase : Phase) → IsStageOf before d stage → IsStageOf before d (stage_at stage.tables stage.noted phase)
+stage_goes_on before d stage phase is = record { tables = is.tables; since = is.since; images = is.images; noted = is.noted }
+
+-- it fails
+pub stage_fails : (before : List FileImage) (d : Database) (tables : List Table) (noted : List RowChange) (refusal : Refusal) (phase : Phase) → IsStageOf before d (stage_at tables noted phase) → IsStageOf before d (failed tables noted refusal)
+stage_fails before d tables [] refusal phase is = record { tables = is.tables; since = is.since; images = is.images; noted = is.noted }
+stage_fails before d tables (image ∷ noted) refusal phase is = record { tables = is.tables; since = is.since; images = is.images; noted = is.noted }
+
+pub stage_writes : StageWrites
+stage_writes pages new before w row d statement stage made left is next s =
+    subst (IsStageOf before s.after) (sym (ap (step_of statement true stage.tables stage.noted) next))
+    (record {
+      tables = ap (λ (tables : List Table). after_change tables (change_of w row)) is.tables ∙ sym s.now;
+      since = s.image ∷ is.since;
+      images = s.images ∙ ap (λ (images : List FileImage). s.image ∷ images) is.images;
+      noted = (λ i. image_of (is.tables i) (change_of w row) ∷ is.noted i) ∙ (λ i. sym s.back i ∷ map back_of is.since);
+    })
+
+-- ---- put back
+
+one_change : (a b : RowChange) (xs ys : List RowChange) → a ∷ xs ≡ b ∷ ys → (a ≡ b) × (xs ≡ ys)
+one_change a b xs ys same = (cc, cc)
+
+one_image : (a b : FileImage) (xs ys : List FileImage) → a ∷ xs ≡ b ∷ ys → (a ≡ b) × (xs ≡ ys)
+one_image a b xs ys same = (cc, cc)
+
+none_one : (b : RowChange) (ys : List RowChange) → [] ≡ b ∷ ys → ⊥
+none_one b ys same = cc
+
+pub stage_undoes : StageUndoes
+stage_undoes pages new before d statement room stage refusal image noted is next there s =
+    subst (IsStageOf before s.after) (sym step)
+    (stage_fails before s.after (after_change stage.tables image) noted refusal (undoing refusal) (by is.since is.images (sym there ∙ is.noted)))
+  where
+    step : after_step statement room stage ≡ failed (after_change stage.tables image) noted refusal
+    step = (λ i. step_of statement room stage.tables (there i) (next i))
+
+    by : (since : List FileImage) → d.images ≡ since ++ before → image ∷ noted ≡ map back_of since → IsStageOf before s.after (stage_at (after_change stage.tables image) noted (undoing refusal))
+    by [] images are = absurd (none_one image noted (sym are))
+    by (i ∷ since) images are =
+        let change = one_change image (back_of i) noted (map back_of since) are in
+        let newest = one_image s.image i s.after.images (since ++ before) (sym s.noted ∙ images) in
+        record {
+          tables = (λ k. after_change (is.tables k) (change.0 k)) ∙ ap (λ (j : FileImage). after_change (tables_of d) (back_of j)) (sym newest.0) ∙ sym s.now;
+          since = since;
+          images = newest.1;
+          noted = change.1;
+        }
+
+pub stage_creates : StageCreates
+stage_creates pages new before def d statement stage is next s =
+    subst (IsStageOf before s.after) (sym (ap (step_of statement true stage.tables stage.noted) next))
+    (record {
+      tables = ap (λ (tables : List Table). with_empty tables def.name def.schema) is.tables ∙ sym s.now;
+      since = is.since;
+      images = s.images ∙ is.images;
+      noted = is.noted;
+    })
+
+pub course_goes_on : CourseGoesOn
+course_goes_on pages contents first d after reaches step kept = reaches_more pages first d after reaches step (contents, kept)

@@ -1,0 +1,28 @@
+//! The steps of a statement.
+
+ghost use Rattle.isp_trx_laws.specs.Laws.{CourseGoesOn, StageBegins, StageCreates, StageUndoes, StageWrites};
+
+/// A statement begins with nothing noted.
+pub fn law_stage_begins()
+    ensures { StageBegins }
+{}
+
+/// A change of a row, written in the file.
+pub fn law_stage_writes()
+    ensures { StageWrites }
+{}
+
+/// The newest image put back, in the file.
+pub fn law_stage_undoes()
+    ensures { StageUndoes }
+{}
+
+/// A table more.
+pub fn law_stage_creates()
+    ensures { StageCreates }
+{}
+
+/// The course goes on by what is kept.
+pub fn law_course_goes_on()
+    ensures { CourseGoesOn }
+{}

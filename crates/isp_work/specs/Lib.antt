@@ -1,0 +1,3 @@
+pub mod Works
+pub mod Starting
+pub mod Finding
