@@ -10,6 +10,6 @@ mod buf;
 mod directory;
 mod entries;
 
-pub use buf::UndoBuf;
+pub use buf::{MARKED_KIND, UndoBuf};
 pub use directory::{Slot, slot_in, with_slot};
-pub use entries::{Spot, cut, fresh, newest, read_entry, used_of, with_entry};
+pub use entries::{Spot, cut, entry_size, fresh, newest, read_entry, used_of, with_entry};

@@ -1,0 +1,9 @@
+pub mod DatabaseLaws
+pub mod DisjointLaws
+pub mod HoldLaws
+pub mod OrderLaws
+pub mod OwnerLaws
+pub mod PlainLaws
+pub mod SlotLaws
+pub mod SwapLaws
+pub mod WrittenLaws
