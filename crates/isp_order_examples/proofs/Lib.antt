@@ -1,1 +1,2 @@
 pub mod RestedPointLaws
+pub mod BrokenLaws

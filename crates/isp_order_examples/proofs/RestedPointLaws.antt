@@ -1,5 +1,5 @@
 -- The five points, row by row and entry by entry.
-use Rattle.std.proofs.Common.{◌≡◌, ◌∙◌, ◌+◌, ◌<◌, inl, inr, refl, sym, ap, subst, ℕ, ℤ, zero, suc, ◌==◌, cond, Bool, true, false, Option, Some, None, [], ◌∷◌, arith, pos, eqb-true}
+use Rattle.std.proofs.Common.{◌≡◌, ◌∙◌, ◌+◌, ◌<◌, inl, inr, refl, sym, ap, subst, ℕ, ℤ, zero, suc, ◌==◌, cond, Bool, true, false, Option, Some, None, List, [], ◌∷◌, length, arith, pos, eqb-true}
 use Rattle.std.specs.Prelude.{codes, replicate, slice_get, slice_index_or}
 use Rattle.std.specs.Option.{option_and_then}
 use Rattle.std.proofs.lemmas.Bool.{false≢true}
@@ -17,15 +17,19 @@ use Rattle.isp_waits.specs.Graphs.{waits_of}
 use Rattle.isp_forest.specs.Tree.{Node}
 use Rattle.isp_forest.specs.Forest.{Forest}
 use Rattle.isp_events.specs.Stored.{KeptRow, StoredTable, Version, indexed, kept_at, no_table, present, rows_of, table_at, tree_of, version_of}
-use Rattle.isp_events.specs.Sessions.{fresh, session_at}
-use Rattle.isp_events.specs.Ways.{IsDefinition, is_geometry, is_indexed}
+use Rattle.isp_serial.specs.declared.script.Word.{Word}
+use Rattle.isp_plain.specs.declared.statement.Statement.{Statement}
+use Rattle.isp_plain.specs.declared.statement.Statement.TheVariants.{Begin, Commit, Insert}
+use Rattle.isp_events.specs.Sessions.{SessionState, fresh, session_at}
+use Rattle.isp_events.specs.Ways.{IsDefinition, Machine, is_geometry, is_indexed}
 use Rattle.isp_order.specs.Trees.{HasEntries, IsKeyed, IsStored, LiesIn, StandsAt, all_numbers, entry_of, version_kept}
 use Rattle.isp_order.specs.InOrder.{IsRested, is_missing}
 use Rattle.isp_order.proofs.RestedLaws.{in_order}
 use Rattle.isp_order.proofs.RowLaws.{lookup_has}
 use Rattle.isp_event_examples.specs.Overtaken.{overtaking}
-use Rattle.isp_event_examples.specs.Points.{five, kept_point, point_row, points, points_schema}
+use Rattle.isp_event_examples.specs.Points.{five, kept_point, machine_of, named_p, point_row, points, points_meeting, points_schema}
 use Rattle.isp_order_examples.specs.RestedPoints.{FivePointsAreInOrder}
+use Rattle.isp_order_examples.specs.ThreeSessions.{for_three, machine_of_three}
 
 nobody : (n s : ℕ) → waits_of (replicate n []) s ≡ []
 nobody zero s = refl
@@ -51,18 +55,35 @@ apart_back a b lt = by_test (a == b) refl
     by_test true e = let is : a ≡ b = eqb-true a b e in let no : ⊥ = omega (arith, lt, is) in absurd no
     by_test false e = refl
 
-missing : (s : ℕ) → 2 < s → is_missing overtaking.script s ≡ true
-missing s above =
+-- a script of two sessions, or of three, has no other
+missing : (statements : List Statement) (first second : List (List ℕ)) (words : List Word) (s : ℕ) → 2 < s → is_missing (machine_of statements first second words).script s ≡ true
+missing statements first second words s above =
     let none : (s == 0) ≡ false = apart_back s 0 (omega (arith, above)) in
-    let first : (1 == s) ≡ false = apart 1 s (omega (arith, above)) in
-    let second : (2 == s) ≡ false = apart 2 s above in
-    rw (none, first, second) refl
+    let one : (1 == s) ≡ false = apart 1 s (omega (arith, above)) in
+    let two : (2 == s) ≡ false = apart 2 s above in
+    rw (none, one, two) refl
 
-each_fresh : (s : ℕ) → session_at five.sessions s ≡ fresh (is_missing overtaking.script s)
-each_fresh zero = refl
-each_fresh (suc zero) = refl
-each_fresh (suc (suc zero)) = refl
-each_fresh (suc (suc (suc s))) = rest_fresh 14 s ∙ ap fresh (sym (missing (suc (suc (suc s))) (omega arith)))
+each_fresh : (statements : List Statement) (first second : List (List ℕ)) (words : List Word) (s : ℕ) → session_at five.sessions s ≡ fresh (is_missing (machine_of statements first second words).script s)
+each_fresh statements first second words zero = refl
+each_fresh statements first second words (suc zero) = refl
+each_fresh statements first second words (suc (suc zero)) = refl
+each_fresh statements first second words (suc (suc (suc s))) = rest_fresh 14 s ∙ ap fresh (sym (missing statements first second words (suc (suc (suc s))) (omega arith)))
+
+missing_of_three : (statements : List Statement) (first second third : List (List ℕ)) (s : ℕ) → 3 < s → is_missing (machine_of_three statements first second third).script s ≡ true
+missing_of_three statements first second third s above =
+    let none : (s == 0) ≡ false = apart_back s 0 (omega (arith, above)) in
+    let one : (1 == s) ≡ false = apart 1 s (omega (arith, above)) in
+    let two : (2 == s) ≡ false = apart 2 s (omega (arith, above)) in
+    let three : (3 == s) ≡ false = apart 3 s above in
+    rw (none, one, two, three) refl
+
+each_of_three_fresh : (statements : List Statement) (first second third : List (List ℕ)) (s : ℕ) → session_at for_three.sessions s ≡ fresh (is_missing (machine_of_three statements first second third).script s)
+each_of_three_fresh statements first second third zero = refl
+each_of_three_fresh statements first second third (suc zero) = refl
+each_of_three_fresh statements first second third (suc (suc zero)) = refl
+each_of_three_fresh statements first second third (suc (suc (suc zero))) = refl
+each_of_three_fresh statements first second third (suc (suc (suc (suc s)))) =
+    rest_fresh 13 s ∙ ap fresh (sym (missing_of_three statements first second third (suc (suc (suc (suc s)))) (omega arith)))
 
 -- ---- rows
 
@@ -191,14 +212,15 @@ given number (inr (inr (inr (inl e)))) = omega (arith, e)
 given number (inr (inr (inr (inr (inl e))))) = omega (arith, e)
 given number (inr (inr (inr (inr (inr h))))) = absurd h
 
-rested : IsRested overtaking five
-rested = record {
-  counted = record { sessions = refl; waits = refl };
+-- the five points, with sessions that are all fresh
+rested_with : (m : Machine) (sessions : List SessionState) → length sessions ≡ 17 → ((s : ℕ) → session_at sessions s ≡ fresh (is_missing m.script s)) → IsRested m (record five { sessions = sessions })
+rested_with m sessions count each_new = record {
+  counted = record { sessions = count; waits = refl };
   no_lock = refl;
   no_search = refl;
   no_wait = λ s. nobody 17 s;
   no_queue = refl;
-  fresh = each_fresh;
+  fresh = each_new;
   whole = whole;
   keyed = record { names = one_name; each = each };
   entered = entered;
@@ -211,6 +233,18 @@ rested = record {
     each : (table : StoredTable) → Has five.tables table → IsKeyed table
     each table (inl e) = subst IsKeyed e points_keyed
     each table (inr h) = absurd h
+
+pub five_rested : (statements : List Statement) (first second : List (List ℕ)) (words : List Word) → IsRested (machine_of statements first second words) five
+five_rested statements first second words = rested_with (machine_of statements first second words) five.sessions refl (each_fresh statements first second words)
+
+pub for_three_rested : (statements : List Statement) (first second third : List (List ℕ)) → IsRested (machine_of_three statements first second third) for_three
+for_three_rested statements first second third = rested_with (machine_of_three statements first second third) for_three.sessions refl (each_of_three_fresh statements first second third)
+
+abbrev overtaking_statements : List Statement
+overtaking_statements = Begin ∷ points_meeting 0 0 6 6 ∷ Commit ∷ Insert named_p (point_row 6 9 1 ∷ point_row 7 9 2 ∷ []) ∷ []
+
+rested : IsRested overtaking five
+rested = five_rested overtaking_statements ((0 ∷ []) ∷ (1 ∷ []) ∷ (2 ∷ []) ∷ []) ((3 ∷ []) ∷ []) overtaking.script.words
 
 pub five_points_are_in_order : FivePointsAreInOrder
 five_points_are_in_order = record { rested = rested; in_order = in_order overtaking five rested }

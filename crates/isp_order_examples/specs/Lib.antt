@@ -1,1 +1,4 @@
 pub mod RestedPoints
+pub mod ThreeSessions
+pub mod BrokenClauses
+pub mod Deadlock

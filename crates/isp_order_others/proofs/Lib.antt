@@ -1,0 +1,4 @@
+pub mod SessionFrames
+pub mod RowChanges
+pub mod SeenRows
+pub mod CommittedFrames
