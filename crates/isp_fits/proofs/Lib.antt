@@ -1,0 +1,4 @@
+pub mod VictimLaws
+pub mod CountLaws
+pub mod FitProofs
+pub mod RunProofs

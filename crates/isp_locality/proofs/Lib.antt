@@ -1,0 +1,3 @@
+pub mod RowLocal
+pub mod TableLocal
+pub mod Framing

@@ -1,0 +1,2 @@
+pub mod ServedRuns
+pub mod NeededClauses

@@ -1,0 +1,78 @@
+-- A clause that is not stronger than it has to be: in a state a weaker one holds, and from it events lead to answers that are not serial. The
+-- table is that of the five points.
+use Rattle.std.specs.Prelude.{◌≡◌, ◌⊎◌, ℕ, ℤ, true, codes, List, [], ◌∷◌, ◌++◌, map, Some, None}
+use Rattle.isp_base.specs.Lists.{Has}
+use Rattle.isp_mbr.specs.Predicates.{satisfies}
+use Rattle.isp_plain.specs.declared.statement.Statement.TheVariants.{Begin, Commit}
+use Rattle.isp_serial.specs.Answers.{Answer}
+use Rattle.isp_serial.specs.Serial.{none_pending}
+use Rattle.isp_forest.specs.declared.entry.Entry.{Entry}
+use Rattle.isp_forest.specs.declared.entry.To.TheVariants as to
+use Rattle.isp_forest.specs.Tree.{Node, Tree, page_at}
+use Rattle.isp_forest.specs.Search.{Item, Search}
+use Rattle.isp_events.specs.Stored.{StoredTable, table_at, tree_of}
+use Rattle.isp_events.specs.Sessions.{SessionState}
+use Rattle.isp_events.specs.State.{State, TreeSearch}
+use Rattle.isp_events.specs.Views.{committed}
+use Rattle.isp_events.specs.Ways.{Machine}
+use Rattle.isp_events.specs.Lines.{answers_in}
+use Rattle.isp_events.specs.Events.{Event, MayFollow, after_all, lines_of_all, with_nothing}
+use Rattle.isp_event_laws.specs.SerialAfter.{serial_from}
+use Rattle.isp_order.specs.Searches.{AreKnown, items_of}
+use Rattle.isp_order.specs.InOrder.{InOrder}
+use Rattle.isp_event_examples.specs.Points.{adding_point, five, goes_down, machine_of, nothing, points_meeting, puts_on}
+use Rattle.isp_event_examples.specs.WrongMachines.{own_unseen}
+use Rattle.isp_event_examples.specs.WrongRuns.{texts}
+use Rattle.isp_order_examples.specs.BrokenClauses.{by, exchanged}
+
+-- the texts that these answers have
+abbrev pub texts_in : List Answer → List (List ℕ)
+texts_in answers = map (λ (a : Answer). a.text) answers
+
+-- ---- entries that a search hasn't found
+
+-- the session itself placed the entry, in whichever statement
+pub record IsPlacedByOwn (x : Search) (items : List Item) (key : ℤ) (number : ℕ) : Type 0 where
+  pub item : Item
+  pub among : Has items item
+  pub session : item.session ≡ x.session
+  pub same_key : item.key ≡ key
+  pub same_number : item.number ≡ number
+
+-- what lies on a leaf that the search is on and satisfies its predicate is found, or its session placed it, earlier or later
+abbrev pub KnownOrOwn : Tree → Search → List Item → Type 0
+KnownOrOwn tree x items =
+    (p : ℕ) (leaf : Node) (e : Entry) (key : ℤ) (number : ℕ) → Has x.on p → page_at tree p ≡ Some leaf → leaf.level ≡ 0
+    → Has leaf.entries e → e.to ≡ to.Row key number → satisfies x.predicate e.b ≡ true → Has x.found key ⊎ IsPlacedByOwn x items key number
+
+abbrev pub AreKnownOrOwn : List StoredTable → List TreeSearch → List SessionState → Type 0
+AreKnownOrOwn tables searches sessions =
+    (x : TreeSearch) → Has searches x → KnownOrOwn (tree_of (table_at tables x.table) x.column) x.search (items_of sessions x.table x.column)
+
+-- a session adds a row, and then looks for it
+abbrev pub looking : Machine
+looking = machine_of (Begin ∷ adding_point 6 1 1 ∷ points_meeting 0 0 2 2 ∷ Commit ∷ []) (texts (0 ∷ 1 ∷ 2 ∷ 3 ∷ [])) [] []
+
+-- until the leaf is to be visited on which its entry lies
+abbrev pub until_leaf : List Event
+until_leaf = by 1 (nothing 3 ++ (goes_down (17 ∷ 19 ∷ []) ++ (puts_on 16 (18 ∷ []) ∷ nothing 3)))
+
+-- the search leaves it out
+abbrev pub left_out : State
+left_out = exchanged looking 1 with_nothing own_unseen (after_all looking five until_leaf)
+
+abbrev pub to_commit : List Event
+to_commit = by 1 (nothing 3)
+
+abbrev pub answers_left_out : List Answer
+answers_left_out = answers_in (lines_of_all looking five until_leaf ++ lines_of_all looking left_out to_commit)
+
+-- its answer lacks the row, which its transaction done again has
+pub record KnownIsNeeded : Type 0 where
+  pub happen : MayFollow looking 1 1 five until_leaf
+  pub in_order : InOrder looking (after_all looking five until_leaf)
+  pub weaker : AreKnownOrOwn left_out.tables left_out.searches left_out.sessions
+  pub fails : AreKnown left_out.tables left_out.searches left_out.sessions → ⊥
+  pub goes_on : MayFollow looking 1 1 left_out to_commit
+  pub answered : texts_in answers_left_out ≡ codes "OK" ∷ codes "OK 1 rows" ∷ codes "OK 1 rows (1,POINT(0 0))" ∷ codes "OK" ∷ []
+  pub not_serial : serial_from looking.language looking.script (committed five) none_pending answers_left_out ≡ None

@@ -1,0 +1,5 @@
+pub mod StandLaws
+pub mod FrameLaws
+pub mod KeptLaws
+pub mod AnswerLaws
+pub mod EventLaws

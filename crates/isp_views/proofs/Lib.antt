@@ -1,0 +1,4 @@
+pub mod SeenLaws
+pub mod ViewLaws
+pub mod MovedLaws
+pub mod EndLaws
