@@ -1,0 +1,4 @@
+pub mod HeldLaws
+pub mod LeafLaws
+pub mod TakenLaws
+pub mod UpdatedLaws

@@ -1,0 +1,4 @@
+pub mod Calls
+pub mod TableLists
+pub mod Opened
+pub mod Creations

@@ -1,0 +1,100 @@
+-- What a row that is written makes of a file.
+use Rattle.std.specs.Prelude.{◌≡◌, ℕ, ◌+◌, ◌-◌, ◌≤◌, nat_lt, Bool, true, false, List, ◌∷◌, length, slice_get, Option, Some, None, if◌then◌else◌}
+use Rattle.std.specs.Option.{option_map}
+use Rattle.isp_catalog.specs.declared.table.TableDef.{TableDef}
+use Rattle.isp_changes.specs.Changes.{RowChange, after_change, image_of}
+use Rattle.isp_clustered.specs.Cells.{kept_of}
+use Rattle.isp_clustered.specs.Rows.{find}
+use Rattle.isp_clustered.specs.Trees.{rows_of}
+use Rattle.isp_clustered.specs.declared.kept.Kept.{Kept}
+use Rattle.isp_format.specs.Ranges.{Contents}
+use Rattle.isp_format.specs.Undo.{OldImage}
+use Rattle.isp_image.specs.Courses.{Reaches}
+use Rattle.isp_image.specs.Databases.{Database, FileImage, FileTable, back_of, tables_of}
+use Rattle.isp_image.specs.Files.{IsSpelling, KeptFile}
+use Rattle.isp_page.specs.declared.pages.Pages.{Ghosts}
+use Rattle.isp_plain.specs.Lined.{is_lined_row}
+use Rattle.isp_plain.specs.Values.{key_of}
+use Rattle.isp_plain.specs.RowBytes.{row_limit}
+use Rattle.isp_plain.specs.declared.value.Row.{Row}
+use Rattle.isp_plain.specs.declared.value.Schema.{Schema}
+use Rattle.isp_trx.specs.Transactions.{HasNoted, TrxState}
+use Rattle.isp_trx.specs.Writes.{CanWrite, Write, Wrote, images_of, is_smaller, place_of}
+use Rattle.isp_writes.specs.Causes.{IsFull}
+use Rattle.isp_tables.specs.Opened.{IsOpen}
+
+-- ---- bytes
+
+-- the bytes that stand there, where they are no more than a row may have
+abbrev pub IsCopyOf : Option Kept → Option (List ℕ) → Type 0
+IsCopyOf old found = (kept : Kept) → old ≡ Some kept → length kept.row ≤ row_limit → found ≡ Some kept.row
+
+-- bytes that spell the row, if it has no line feed
+abbrev pub SpellsNew : Schema → Row → Option (List ℕ) → Type 0
+SpellsNew schema row None = ⊥
+SpellsNew schema row (Some bytes) = is_lined_row row ≡ true → IsSpelling schema (key_of row) bytes row
+
+-- what is written for a row: bytes that spell it, or where it is deleted those that stand there
+abbrev pub IsBytesOf : Schema → Row → Bool → Option Kept → Option (List ℕ) → Type 0
+IsBytesOf schema row true old found = IsCopyOf old found
+IsBytesOf schema row false old found = SpellsNew schema row found
+
+-- ---- one write
+
+-- The contents are this database, whose old rows the transaction noted; what stands at the key is known, and the bytes spell a row of
+-- the table. Whether there is room isn't said.
+pub record MayWrite (pages : ℕ) (contents : Contents) (images : List OldImage) (w : Write) (d : Database) (t : FileTable) (row : Row) : Type 0 where
+  pub kept : KeptFile pages contents d
+  pub noted : images_of d ≡ images
+  pub from : 1 ≤ w.at.table
+  pub is_there : slice_get d.tables (place_of w.at) ≡ Some t
+  pub root : t.def.root.0 ≡ w.root
+  pub stands : w.old ≡ option_map kept_of (find w.at.key (rows_of t.tree))
+  pub spells : IsSpelling t.def.schema w.at.key w.row row
+  pub unmarked : is_smaller (length w.row) w.old ≡ true → w.marked ≡ false
+
+-- it was written, or there was no room, and nothing changed
+abbrev pub WroteOrFull : ℕ → Contents → Contents → TrxState → TrxState → Write → Database → FileTable → Row → Bool → Type 0
+WroteOrFull pages old new trx trx_now w d t row true = CanWrite pages old trx.images w d t row × Wrote pages new w row d × HasNoted w.at w.old trx trx_now
+WroteOrFull pages old new trx trx_now w d t row false = (new ≡ old) × (trx_now ≡ trx) × IsFull pages d
+
+-- so many changes are noted
+abbrev pub Notes : TrxState → TrxState → Bool → Type 0
+Notes trx trx_now done = length trx_now.images ≡ length trx.images + (if done then 1 else 0)
+
+-- ---- one row of a table
+
+-- The change was made, with what stood there noted, and nothing else.
+pub record DidWrite {S : Type 0} (g : Ghosts S) (now : S) (defs : List TableDef) (trx : TrxState) (change : RowChange) (d : Database) : Type 0 where
+  pub after : Database
+  pub opened : IsOpen g now defs trx after
+  pub image : FileImage
+  pub noted : after.images ≡ image ∷ d.images
+  pub back : back_of image ≡ image_of (tables_of d) change
+  pub tables : tables_of after ≡ after_change (tables_of d) change
+  pub reaches : Reaches (g.shape now).pages d after
+
+-- it was, or there was no room, and nothing changed
+abbrev pub WritesOrFull : {S : Type 0} → Ghosts S → S → List TableDef → TrxState → RowChange → Database → Bool → Type 0
+WritesOrFull g now defs trx change d true = DidWrite g now defs trx change d
+WritesOrFull g now defs trx change d false = IsOpen g now defs trx d × IsFull (g.shape now).pages d
+
+-- ---- a change that is taken back
+
+-- one less, where there are more than so many
+abbrev pub fewer : ℕ → ℕ → ℕ
+fewer base noted = if nat_lt base noted then noted - 1 else noted
+
+-- The newest old row was put back, and is noted no more.
+pub record DidUndo {S : Type 0} (g : Ghosts S) (now : S) (defs : List TableDef) (trx : TrxState) (d : Database) : Type 0 where
+  pub after : Database
+  pub opened : IsOpen g now defs trx after
+  pub image : FileImage
+  pub noted : d.images ≡ image ∷ after.images
+  pub tables : tables_of after ≡ after_change (tables_of d) (back_of image)
+  pub reaches : Reaches (g.shape now).pages d after
+
+-- it was, or nothing changed
+abbrev pub UndidOrNot : {S : Type 0} → Ghosts S → S → List TableDef → TrxState → Bool → Database → Type 0
+UndidOrNot g now defs trx true d = DidUndo g now defs trx d
+UndidOrNot g now defs trx false d = IsOpen g now defs trx d

@@ -1,0 +1,144 @@
+//! A row is written.
+
+ghost use Rattle.std.specs.Prelude.{◌≡◌, ◌≤◌, ◌<◌, ℕ, List, true, false, length, Some, IfErr, IfOk, IfSome, OnOk};
+ghost use Rattle.isp_catalog.specs.declared.table.TableDef.{TableDef};
+ghost use Rattle.isp_clustered.specs.declared.kept.Kept.{Kept};
+ghost use Rattle.isp_image.specs.Databases.{Database, FileTable};
+ghost use Rattle.isp_page.specs.Steps.{IsNoDamageOrLacks};
+ghost use Rattle.isp_plain.specs.declared.value.Row.{Row};
+ghost use Rattle.isp_trx.specs.Writes.{write_at};
+ghost use Rattle.isp_tables.specs.Calls.{Keeps};
+ghost use Rattle.isp_tables.specs.Opened.{IsAtPlace, IsOpen, IsWritable};
+ghost use Rattle.isp_work.specs.Works.{change_by};
+ghost use Rattle.isp_scan.specs.Readings.{IsPutRow};
+ghost use Rattle.isp_writes.specs.Writing.{IsBytesOf, IsCopyOf, MayWrite, Notes, WritesOrFull, WroteOrFull};
+
+use isp_base::{Bytes, PageNo};
+use isp_catalog::TableDef;
+use isp_clustered::{Kept, get};
+use isp_page::{Fault, Pages, StoreFault};
+use isp_plain::{Row, Schema};
+use isp_scan::{key_of, spell};
+use isp_trx::{RowKey, Trx, may_write};
+use std::alloc::{AllocError, Global};
+
+// The most bytes that a row may have.
+const ROW_LIMIT: usize = 1_000;
+
+// A copy of the bytes that stand there, unless there are none or too many.
+fn kept_bytes(alloc: Global, old: &Option<Kept>) -> Result<Option<Bytes>, AllocError>
+    ensures short { IfOk result (λ found. IfSome found (λ bytes. length bytes ≤ 1000)) }
+    ensures same { IfOk result (IsCopyOf old.now) }
+{
+    match old {
+        Some(kept) => {
+            let bytes = kept.row.as_slice();
+            if bytes.len() > ROW_LIMIT {
+                return Ok(None);
+            }
+            let bytes = Bytes::from_slice(alloc, bytes)?;
+            Ok(Some(bytes))
+        }
+        None => Ok(None),
+    }
+}
+
+// The bytes that are written for a row: those that it spells, or where it is deleted those that stand there.
+fn bytes_for(
+    alloc: Global,
+    schema: &Schema,
+    row: &Row,
+    deletes: bool,
+    old: &Option<Kept>,
+) -> Result<Option<Bytes>, AllocError>
+    requires row { deletes ≡ false → IsPutRow schema.now row.now }
+    ensures short { IfOk result (λ found. IfSome found (λ bytes. length bytes ≤ 1000)) }
+    ensures bytes { IfOk result (IsBytesOf schema.now row.now deletes old.now) }
+{
+    if deletes {
+        return kept_bytes(alloc, old);
+    }
+    let bytes = spell(alloc, schema, row)?;
+    Ok(Some(bytes))
+}
+
+// Writes the bytes, or answers false where there is no room, and changes nothing.
+fn write_bytes<P: Pages>(
+    pages: &mut P,
+    trx: &mut Trx,
+    root: PageNo,
+    at: RowKey,
+    old: Option<Kept>,
+    bytes: &[u8],
+    deletes: bool,
+) -> Result<bool, Fault>
+    requires usable { P.usable pages.old ≡ true }
+    requires none { (P.mini pages.old).is_begun ≡ false }
+    requires page { root.0 < (P.shape pages.old).pages }
+    requires size { length bytes.now ≤ 1000 }
+    requires spare { 1 ≤ trx.old.spare }
+    ensures kept { Keeps P.Pages pages.old pages.new result }
+    ensures mini { OnOk result ((P.mini pages.new).is_begun ≡ false) }
+    ensures notes { IfOk result (Notes trx.old trx.new) }
+    ensures wrote { P.tells → (d : Database) (t : FileTable) (r : Row)
+        → MayWrite (P.shape pages.old).pages (P.contents pages.old) trx.old.images
+        (write_at at root.0 old bytes.now deletes) d t r
+        → IfOk result (WroteOrFull (P.shape pages.old).pages (P.contents pages.old)
+        (P.contents pages.new) trx.old trx.new (write_at at root.0 old bytes.now deletes) d t r) }
+    ensures sound { P.tells → (d : Database) (t : FileTable) (r : Row)
+        → MayWrite (P.shape pages.old).pages (P.contents pages.old) trx.old.images
+        (write_at at root.0 old bytes.now deletes) d t r → IfErr result IsNoDamageOrLacks }
+{
+    if !may_write(pages, root, at.key, &old, bytes.len())? {
+        return Ok(false);
+    }
+    trx.write_row(pages, root, at, old, bytes, deletes)?;
+    Ok(true)
+}
+
+/// Writes a row at its key, or marks the row that stands there as deleted; what stood there is noted. False where the file has no
+/// room for the change, or the leaf none for the row: then nothing is changed.
+///
+/// # Errors
+///
+/// Disk; want of memory; or Damaged, as of the calls of isp_clustered and isp_space, or with the table's root and rule 7 where the
+/// row to be deleted isn't there.
+pub fn write_row<P: Pages>(
+    alloc: Global,
+    pages: &mut P,
+    trx: &mut Trx,
+    def: &TableDef,
+    row: &Row,
+    deletes: bool,
+) -> Result<bool, Fault>
+    requires usable { P.usable pages.old ≡ true }
+    requires none { (P.mini pages.old).is_begun ≡ false }
+    requires page { def.now.root.0 < (P.shape pages.old).pages }
+    requires row { deletes ≡ false → IsPutRow def.now.schema row.now }
+    ensures kept { Keeps P.Pages pages.old pages.new result }
+    ensures mini { OnOk result ((P.mini pages.new).is_begun ≡ false) }
+    ensures notes { IfOk result (Notes trx.old trx.new) }
+    ensures wrote { P.tells → (defs : List TableDef) (d : Database) (place : ℕ)
+        → IsOpen P.Pages pages.old defs trx.old d → IsAtPlace place def.now d
+        → IsWritable deletes place row.now d
+        → IfOk result (WritesOrFull P.Pages pages.new defs trx.new
+        (change_by deletes place row.now) d) }
+    ensures sound { P.tells → (defs : List TableDef) (d : Database) (place : ℕ)
+        → IsOpen P.Pages pages.old defs trx.old d → IsAtPlace place def.now d
+        → IsWritable deletes place row.now d → IfErr result IsNoDamageOrLacks }
+{
+    trx.reserve(1)?;
+    let key = key_of(row);
+    let old = get(alloc, pages, def.root, key)?;
+    let at = RowKey {
+        table: def.number,
+        key,
+    };
+    match bytes_for(alloc, &def.schema, row, deletes, &old)? {
+        Some(bytes) => write_bytes(pages, trx, def.root, at, old, bytes.as_slice(), deletes),
+        None => Err(Fault::Store(StoreFault::Damaged {
+            page: def.root.0,
+            rule: 7,
+        })),
+    }
+}
