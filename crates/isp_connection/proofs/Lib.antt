@@ -1,0 +1,4 @@
+pub mod EndLaws
+pub mod MeantLaws
+pub mod SuitLaws
+pub mod SweepLaws

@@ -1,0 +1,37 @@
+use Rattle.std.proofs.Common.{rules, ◌≡◌, length, sym, ◌∙◌, ap, subst}
+use Rattle.isp_exec.proofs.ReadAtLaws.{start_statement}
+use Rattle.isp_exec.specs.Starting.{place_by}
+use Rattle.isp_page.specs.State.{FileShape}
+use Rattle.isp_plain.specs.declared.statement.Reply.{Reply}
+use Rattle.isp_work.specs.declared.work.Work.{Work}
+use Rattle.isp_connection.specs.Answering.{Executed}
+use Rattle.isp_connection.specs.Connections.{ConnectionState, of_session}
+use Rattle.isp_connection.proofs.EndLaws.{at_rest, executed, fit_inside, hold_inside, settles_in_session, start_inside}
+use Rattle.isp_connection.proofs.connection.Connection.execute.Goals as goal
+
+pub run-requires-clause-fit : goal.run-requires-clause-fit
+run-requires-clause-fit g c =
+    fit_inside g.P.Pages c.args.pages.now c.self.inside c.args.self.now c.self.view_is c.args.statement c.start-work.result c.start-work.ensures c.requires.suits
+
+pub returns-in_err-run-clause-sound : goal.returns-in_err-run-clause-sound
+returns-in_err-run-clause-sound g c tells d state h may =
+    let at = start_inside g.P.Pages c.args.pages.now c.self.inside c.args.self.now c.self.view_is state d c.args.statement c.start-work.result c.start-work.ensures h may.lined in
+    let sound = c.in_err-run.ensures.sound tells d at in
+    search (rules, sound, c.from_residual.ensures)
+
+pub returns-clause-executed : goal.returns-clause-executed
+returns-clause-executed g c tells d state h may =
+    let i = c.self.inside in
+    let s = c.args.statement in
+    let at = start_inside g.P.Pages c.args.pages.now i c.args.self.now c.self.view_is state d s c.start-work.result c.start-work.ensures h may.lined in
+    let r = c.in_ok-run.ensures in
+    let e = c.in_ok-settle.ensures in
+    let own = hold_inside g.P.Pages c.args.pages.now i c.args.self.now c.self.view_is state d h in
+    let now : ConnectionState = record { inside = i.inside; defs = c.run.new.tables; trx = of_session i.session c.settle.new.trx } in
+    let ran = r.stands tells d at in
+    let stated : c.run.new.work.statement ≡ s = r.statement ∙ ap (λ (w : Work). w.statement) c.start-work.ensures ∙ start_statement s (length i.trx.images) (place_by i.tables s) in
+    let done =
+    executed g.P.Pages c.run.new.pages c.settle.new.pages now c.run.new.trx state d c.run.new.work ran r.ready s stated own.present (λ outside. at_rest g.P.Pages c.args.pages.now c.args.self.now state d h outside) own.committed_are own.setup own.inside
+    (ap (λ (shape : FileShape). shape.pages) e.kept.same_shape) i.inside (sym own.inside) (λ inside. may.outside (sym own.inside ∙ inside))
+    (settles_in_session g.P.Pages c.settle.new.pages i.session c.run.new.tables c.settle.new.trx ran.db i.inside (e.settled tells c.run.new.tables ran.db ran.opened)) in
+    subst (λ (reply : Reply). Executed g.P.Pages c.settle.new.pages now state s d reply) (sym c.into_reply.ensures) done

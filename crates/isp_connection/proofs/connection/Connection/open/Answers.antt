@@ -1,0 +1,10 @@
+use Rattle.std.proofs.Common.{ap}
+use Rattle.isp_page.specs.State.{FileShape}
+use Rattle.isp_tables.specs.Opened.{defs_in}
+use Rattle.isp_connection.proofs.EndLaws.{opens}
+use Rattle.isp_connection.proofs.connection.Connection.open.Goals as goal
+
+pub returns-clause-opened : goal.returns-clause-opened
+returns-clause-opened g c tells d kept none tidy =
+    let e = c.in_ok-tables.ensures in
+    opens g.P.Pages c.args.pages.now c.load.new.pages c.args.session c.in_ok-tables.tables c.begin-trx.result d (ap (λ (s : FileShape). s.pages) e.kept.keeps.same_shape) (e.contents tells) kept none tidy (e.found tells d.space (defs_in d) kept.catalogue) c.begin-trx.ensures

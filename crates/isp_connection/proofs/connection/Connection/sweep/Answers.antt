@@ -1,0 +1,35 @@
+use Rattle.std.proofs.Common.{rules, refl, sym, ◌∙◌, ap, subst}
+use Rattle.isp_page.specs.State.{FileShape}
+use Rattle.isp_tables.specs.Calls.{AreInside}
+use Rattle.isp_tables.proofs.RootLaws.{are_within}
+use Rattle.isp_trx.specs.Transactions.{TrxState}
+use Rattle.isp_connection.specs.Connections.{ConnectionState, of_session, state_of}
+use Rattle.isp_connection.proofs.EndLaws.{hold_inside}
+use Rattle.isp_connection.proofs.SweepLaws.{can_sweep, ended_keys, swept_tidy}
+use Rattle.isp_connection.proofs.connection.Connection.sweep.Goals as goal
+
+pub drop_marked_rows-requires-clause-roots : goal.drop_marked_rows-requires-clause-roots
+drop_marked_rows-requires-clause-roots g c =
+    let pages = (g.P.Pages.shape c.args.pages.now).pages in
+    are_within pages c.roots.result.now c.self.inside.tables c.roots.ensures (subst (λ (s : ConnectionState). AreInside pages s.defs) (sym c.self.view_is) c.requires.serves.inside)
+
+pub returns-in_err-drop_marked_rows-clause-sound : goal.returns-in_err-drop_marked_rows-clause-sound
+returns-in_err-drop_marked_rows-clause-sound g c tells d state holds =
+    let i = c.self.inside in
+    let same = ended_keys i.trx c.replace-ended.result c.end.result.items c.rising-keys.result.items c.as_slice.result.now c.replace-ended.ensures.value c.end.ensures c.rising-keys.ensures.all c.as_slice.ensures.value in
+    let h = hold_inside g.P.Pages c.args.pages.now i c.args.self.now c.self.view_is state d holds in
+    let can = can_sweep g.P.Pages c.args.pages.now c.args.pages.now (state_of i) (state_of i) state d c.roots.result.now c.as_slice.result.now h c.if-self.false c.roots.ensures same in
+    let sound = c.in_err-drop_marked_rows.ensures.sound tells d can in
+    search (rules, sound, c.from_residual.ensures)
+
+pub returns-clause-swept : goal.returns-clause-swept
+returns-clause-swept g c tells d state holds =
+    let i = c.self.inside in
+    let same = ended_keys i.trx c.replace-ended.result c.end.result.items c.rising-keys.result.items c.as_slice.result.now c.replace-ended.ensures.value c.end.ensures c.rising-keys.ensures.all c.as_slice.ensures.value in
+    let h = hold_inside g.P.Pages c.args.pages.now i c.args.self.now c.self.view_is state d holds in
+    let fresh = c.replace-ended.new.dest in
+    let after = c.replace-ended.ensures.after in
+    let e = c.in_ok-drop_marked_rows.ensures in
+    swept_tidy g.P.Pages c.args.pages.now c.drop_marked_rows.new.pages (state_of i) (record { inside = i.inside; defs = i.tables; trx = of_session i.session fresh }) state d c.roots.result.now c.as_slice.result.now h c.if-self.false c.roots.ensures same
+    (e.swept tells) (ap (λ (s : FileShape). s.pages) e.made.keeps.same_shape) refl refl
+    (record { session_is = refl; images = ap (λ (trx : TrxState). trx.images) after ∙ c.begin-fresh.ensures.images; keys = ap (λ (trx : TrxState). trx.keys) after ∙ c.begin-fresh.ensures.keys })

@@ -1,0 +1,3 @@
+pub mod Sql
+pub mod Plays
+pub mod Runs

@@ -1,0 +1,130 @@
+//! A session's texts, answered one after another.
+
+ghost use Rattle.std.specs.Prelude.{◌≡◌, ◌+◌, ◌<◌, ◌^◌, IfErr, OnErr, OnOk, length};
+ghost use Rattle.isp_connection.specs.Answering.{meant};
+ghost use Rattle.isp_connection.specs.Connections.{Holds};
+ghost use Rattle.isp_tables.specs.Calls.{Serves};
+ghost use Rattle.isp_image.specs.Databases.{Database};
+ghost use Rattle.isp_page.specs.Steps.{IsNoDamageOrLacks};
+ghost use Rattle.isp_serial.specs.Alone.{Full, State};
+ghost use Rattle.isp_sessions.specs.Plays.{StaysPlaying};
+ghost use Rattle.isp_sessions.specs.Runs.{AnswersPart, HasAnswered, HasEnded, HasPrinted, HasTexts, PrintsReply, Runs, TextsPart};
+
+use crate::printing::print_answer;
+use isp_base::Bytes;
+use isp_connection::Connection;
+use isp_page::{Fault, Pages};
+use isp_plain::Reply;
+use std::alloc::Global;
+
+// Prints a statement's answer, and takes out what a transaction that is over left marked.
+fn print_reply<P: Pages>(
+    alloc: Global,
+    connection: &mut Connection,
+    pages: &mut P,
+    number: u64,
+    reply: &Reply,
+) -> Result<(), Fault>
+    requires serves { Serves P.Pages pages.old connection.old.defs }
+    ensures stays { StaysPlaying P.Pages pages.old pages.new result }
+    ensures serves { OnOk result (Serves P.Pages pages.new connection.new.defs) }
+    ensures session { OnOk result (connection.new.trx.session ≡ connection.old.trx.session) }
+    ensures printed { P.tells → (d : Database) (state : State)
+        → Holds P.Pages pages.old connection.old state d
+        → OnOk result (HasPrinted P.Pages (P.shape pages.old).pages d connection.old.trx.session
+        number reply.now state pages.old pages.new connection.new) }
+    ensures part { P.tells → OnErr result (PrintsReply P.Pages connection.old.trx.session number
+        reply.now pages.old pages.new) }
+    ensures sound { P.tells → (d : Database) (state : State)
+        → Holds P.Pages pages.old connection.old state d → IfErr result IsNoDamageOrLacks }
+{
+    match print_answer(alloc, pages, connection.session(), number, reply) {
+        Ok(()) => connection.sweep(pages),
+        Err(fault) => Err(fault),
+    }
+}
+
+// Answers one text.
+fn answer_text<P: Pages>(
+    alloc: Global,
+    connection: &mut Connection,
+    pages: &mut P,
+    number: u64,
+    text: &Bytes,
+) -> Result<(), Fault>
+    requires serves { Serves P.Pages pages.old connection.old.defs }
+    ensures stays { StaysPlaying P.Pages pages.old pages.new result }
+    ensures serves { OnOk result (Serves P.Pages pages.new connection.new.defs) }
+    ensures session { OnOk result (connection.new.trx.session ≡ connection.old.trx.session) }
+    ensures answered { P.tells → (d : Database) (state : State)
+        → Holds P.Pages pages.old connection.old state d
+        → OnOk result (HasAnswered P.Pages (P.shape pages.old).pages d connection.old.trx.session
+        number state (meant connection.old.trx.session text.now state)
+        pages.old pages.new connection.new) }
+    ensures part { P.tells → (d : Database) (state : State)
+        → Holds P.Pages pages.old connection.old state d
+        → OnErr result (AnswersPart P.Pages (P.shape pages.old).pages d connection.old.trx.session
+        number state (meant connection.old.trx.session text.now state) pages.old pages.new) }
+    ensures sound { P.tells → (d : Database) (state : State)
+        → Holds P.Pages pages.old connection.old state d → IfErr result IsNoDamageOrLacks }
+{
+    match connection.answer(pages, text) {
+        Ok(reply) => print_reply(alloc, connection, pages, number, &reply),
+        Err(fault) => Err(fault),
+    }
+}
+
+/// Answers the session's texts, one after another.
+pub(crate) fn answer_texts<P: Pages>(
+    alloc: Global,
+    connection: &mut Connection,
+    pages: &mut P,
+    texts: &[Bytes],
+) -> Result<(), Fault>
+    requires serves { Serves P.Pages pages.old connection.old.defs }
+    ensures stays { StaysPlaying P.Pages pages.old pages.new result }
+    ensures serves { OnOk result (Serves P.Pages pages.new connection.new.defs) }
+    ensures session { OnOk result (connection.new.trx.session ≡ connection.old.trx.session) }
+    ensures answered { P.tells → (base : Full) (d : Database) (state : State)
+        → Runs P.Pages pages.old connection.old state d
+        → OnOk result (HasTexts P.Pages (P.shape pages.old).pages base d connection.old.trx.session
+        texts.now state pages.old pages.new connection.new) }
+    ensures part { P.tells → (base : Full) (d : Database) (state : State)
+        → Runs P.Pages pages.old connection.old state d
+        → OnErr result (TextsPart P.Pages (P.shape pages.old).pages base d
+        connection.old.trx.session texts.now state pages.old pages.new) }
+    ensures sound { P.tells → (d : Database) (state : State)
+        → Runs P.Pages pages.old connection.old state d → IfErr result IsNoDamageOrLacks }
+{
+    for (i, text) in texts.iter().enumerate() {
+        match answer_text(alloc, connection, pages, i as u64 + 1, text) {
+            Ok(()) => {}
+            Err(fault) => return Err(fault),
+        }
+    }
+    Ok(())
+}
+
+/// Gives up what is open, and prints the line of the session's end.
+pub(crate) fn end_session<P: Pages>(
+    alloc: Global,
+    connection: &mut Connection,
+    pages: &mut P,
+    number: u64,
+) -> Result<(), Fault>
+    requires serves { Serves P.Pages pages.old connection.old.defs }
+    ensures stays { StaysPlaying P.Pages pages.old pages.new result }
+    ensures ended { P.tells → (d : Database) (state : State)
+        → Holds P.Pages pages.old connection.old state d
+        → OnOk result (HasEnded P.Pages (P.shape pages.old).pages d connection.old.trx.session
+        number state pages.old pages.new connection.new) }
+    ensures part { P.tells → OnErr result (PrintsReply P.Pages connection.old.trx.session number
+        Reply.End pages.old pages.new) }
+    ensures sound { P.tells → (d : Database) (state : State)
+        → Holds P.Pages pages.old connection.old state d → IfErr result IsNoDamageOrLacks }
+{
+    match connection.roll_back(pages) {
+        Ok(()) => print_reply(alloc, connection, pages, number, &Reply::End),
+        Err(fault) => Err(fault),
+    }
+}

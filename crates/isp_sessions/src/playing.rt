@@ -1,0 +1,195 @@
+//! The setup and then the session of a script, from the tables that the file has.
+
+ghost use Rattle.std.specs.Prelude.{◌≡◌, ◌+◌, ◌<◌, ◌^◌, false, true, length, IfErr, OnErr, OnOk};
+ghost use Rattle.isp_tables.specs.Calls.{Serves};
+ghost use Rattle.isp_image.specs.Databases.{Database, tables_of};
+ghost use Rattle.isp_page.specs.Steps.{IsNoDamageOrLacks};
+ghost use Rattle.isp_serial.specs.Alone.{AreSmall, Full, IsAlone, State, settled};
+ghost use Rattle.isp_sessions.specs.Plays.{IsAtRest, IsSmall, Played, PlayedPart, StaysPlaying};
+ghost use Rattle.isp_sessions.specs.Runs.{HasSession, HasSessions, HasSetup, Runs, SessionPart, SessionsPart, SetupPart};
+
+use crate::answering::{answer_texts, end_session};
+use isp_base::Bytes;
+use isp_connection::Connection;
+use isp_page::{Fault, Pages};
+use isp_serial::{Script, Session};
+use std::alloc::Global;
+
+// The number of the answer behind the last text's.
+fn end_number(texts: &[Bytes]) -> u64
+    ensures value { result ≡ length texts.now + 1 }
+    ensures small { length texts.now + 1 < 2 ^ 64 }
+{
+    texts.len() as u64 + 1
+}
+
+// A session's number and those of its answers fit into 64 bits.
+fn count_answers(session: &Session)
+    ensures { (session.now.number < 2 ^ 64) × (length session.now.texts + 1 < 2 ^ 64) }
+{
+    let _number = session.number;
+    let _end = end_number(session.texts.as_slice());
+}
+
+fn count_sessions(sessions: &[Session])
+    ensures { AreSmall sessions.now }
+{
+    for session in sessions {
+        count_answers(session);
+    }
+}
+
+fn count_script(script: &Script)
+    ensures { IsSmall script.now }
+{
+    let _end = end_number(script.setup.as_slice());
+    count_sessions(script.sessions.as_slice());
+}
+
+// Answers the script's setup.
+fn answer_setup<P: Pages>(alloc: Global, script: &Script, pages: &mut P) -> Result<(), Fault>
+    requires usable { P.usable pages.old ≡ true }
+    requires none { (P.mini pages.old).is_begun ≡ false }
+    ensures stays { StaysPlaying P.Pages pages.old pages.new result }
+    ensures answered { P.tells → (d : Database)
+        → IsAtRest (P.shape pages.old).pages (P.contents pages.old) d
+        → OnOk result (HasSetup P.Pages (P.shape pages.old).pages d script.now.setup pages.old
+        pages.new) }
+    ensures part { P.tells → (d : Database)
+        → IsAtRest (P.shape pages.old).pages (P.contents pages.old) d
+        → OnErr result (SetupPart P.Pages (P.shape pages.old).pages d script.now.setup pages.old
+        pages.new) }
+    ensures sound { P.tells → (d : Database)
+        → IsAtRest (P.shape pages.old).pages (P.contents pages.old) d
+        → IfErr result IsNoDamageOrLacks }
+{
+    match Connection::open(alloc, pages, 0) {
+        Ok(mut connection) => {
+            answer_texts(alloc, &mut connection, pages, script.setup.as_slice())
+        }
+        Err(fault) => Err(fault),
+    }
+}
+
+// Answers the session's texts, and prints its end.
+fn answer_all<P: Pages>(
+    alloc: Global,
+    connection: &mut Connection,
+    pages: &mut P,
+    texts: &[Bytes],
+) -> Result<(), Fault>
+    requires serves { Serves P.Pages pages.old connection.old.defs }
+    ensures stays { StaysPlaying P.Pages pages.old pages.new result }
+    ensures answered { P.tells → (base : Full) (d : Database) (state : State)
+        → Runs P.Pages pages.old connection.old state d
+        → OnOk result (HasSession P.Pages (P.shape pages.old).pages base d
+        connection.old.trx.session texts.now state pages.old pages.new) }
+    ensures part { P.tells → (base : Full) (d : Database) (state : State)
+        → Runs P.Pages pages.old connection.old state d
+        → OnErr result (SessionPart P.Pages (P.shape pages.old).pages base d
+        connection.old.trx.session texts.now state pages.old pages.new) }
+    ensures sound { P.tells → (d : Database) (state : State)
+        → Runs P.Pages pages.old connection.old state d → IfErr result IsNoDamageOrLacks }
+{
+    match answer_texts(alloc, connection, pages, texts) {
+        Ok(()) => end_session(alloc, connection, pages, end_number(texts)),
+        Err(fault) => Err(fault),
+    }
+}
+
+fn answer_session<P: Pages>(alloc: Global, pages: &mut P, session: &Session) -> Result<(), Fault>
+    requires usable { P.usable pages.old ≡ true }
+    requires none { (P.mini pages.old).is_begun ≡ false }
+    ensures stays { StaysPlaying P.Pages pages.old pages.new result }
+    ensures answered { P.tells → (base : Full) (d : Database)
+        → IsAtRest (P.shape pages.old).pages (P.contents pages.old) d
+        → OnOk result (HasSession P.Pages (P.shape pages.old).pages base d session.now.number
+        session.now.texts (settled (tables_of d)) pages.old pages.new) }
+    ensures part { P.tells → (base : Full) (d : Database)
+        → IsAtRest (P.shape pages.old).pages (P.contents pages.old) d
+        → OnErr result (SessionPart P.Pages (P.shape pages.old).pages base d session.now.number
+        session.now.texts (settled (tables_of d)) pages.old pages.new) }
+    ensures sound { P.tells → (d : Database)
+        → IsAtRest (P.shape pages.old).pages (P.contents pages.old) d
+        → IfErr result IsNoDamageOrLacks }
+{
+    match Connection::open(alloc, pages, session.number) {
+        Ok(mut connection) => {
+            answer_all(alloc, &mut connection, pages, session.texts.as_slice())
+        }
+        Err(fault) => Err(fault),
+    }
+}
+
+// Answers the one session, where there is one. A script has no more of them yet.
+fn answer_sessions<P: Pages>(alloc: Global, script: &Script, pages: &mut P) -> Result<(), Fault>
+    requires usable { P.usable pages.old ≡ true }
+    requires none { (P.mini pages.old).is_begun ≡ false }
+    ensures stays { StaysPlaying P.Pages pages.old pages.new result }
+    ensures answered { P.tells → IsAlone script.now.sessions → (base : Full) (d : Database)
+        → IsAtRest (P.shape pages.old).pages (P.contents pages.old) d
+        → OnOk result (HasSessions P.Pages (P.shape pages.old).pages base d script.now.sessions
+        pages.old pages.new) }
+    ensures part { P.tells → IsAlone script.now.sessions → (base : Full) (d : Database)
+        → IsAtRest (P.shape pages.old).pages (P.contents pages.old) d
+        → OnErr result (SessionsPart P.Pages (P.shape pages.old).pages base d script.now.sessions
+        pages.old pages.new) }
+    ensures sound { P.tells → (d : Database)
+        → IsAtRest (P.shape pages.old).pages (P.contents pages.old) d
+        → IfErr result IsNoDamageOrLacks }
+{
+    match script.sessions.as_slice() {
+        [session, ..] => answer_session(alloc, pages, session),
+        [] => Ok(()),
+    }
+}
+
+// Answers the setup and then the session.
+fn answer_script<P: Pages>(alloc: Global, script: &Script, pages: &mut P) -> Result<(), Fault>
+    requires usable { P.usable pages.old ≡ true }
+    requires none { (P.mini pages.old).is_begun ≡ false }
+    ensures stays { StaysPlaying P.Pages pages.old pages.new result }
+    ensures played { P.tells → IsAlone script.now.sessions → (d : Database)
+        → IsAtRest (P.shape pages.old).pages (P.contents pages.old) d
+        → OnOk result (Played (P.shape pages.old).pages script.now d (P.contents pages.new)
+        (P.printed pages.old) (P.printed pages.new)) }
+    ensures part { P.tells → IsAlone script.now.sessions → (d : Database)
+        → IsAtRest (P.shape pages.old).pages (P.contents pages.old) d
+        → OnErr result (PlayedPart (P.shape pages.old).pages script.now d
+        (P.printed pages.old) (P.printed pages.new)) }
+    ensures sound { P.tells → (d : Database)
+        → IsAtRest (P.shape pages.old).pages (P.contents pages.old) d
+        → IfErr result IsNoDamageOrLacks }
+{
+    match answer_setup(alloc, script, pages) {
+        Ok(()) => answer_sessions(alloc, script, pages),
+        Err(fault) => Err(fault),
+    }
+}
+
+/// Answers the setup and then the session of the script, from the tables that the file has, and prints each answer's line.
+/// What was committed stays in the pages; a transaction that is open at a session's end is taken back.
+///
+/// # Errors
+///
+/// Memory; or Disk, Print; or Damaged, on pages that are no kept file.
+pub fn play<P: Pages>(alloc: Global, script: &Script, pages: &mut P) -> Result<(), Fault>
+    requires usable { P.usable pages.old ≡ true }
+    requires none { (P.mini pages.old).is_begun ≡ false }
+    ensures stays { StaysPlaying P.Pages pages.old pages.new result }
+    ensures small { IsSmall script.now }
+    ensures played { P.tells → IsAlone script.now.sessions → (d : Database)
+        → IsAtRest (P.shape pages.old).pages (P.contents pages.old) d
+        → OnOk result (Played (P.shape pages.old).pages script.now d (P.contents pages.new)
+        (P.printed pages.old) (P.printed pages.new)) }
+    ensures part { P.tells → IsAlone script.now.sessions → (d : Database)
+        → IsAtRest (P.shape pages.old).pages (P.contents pages.old) d
+        → OnErr result (PlayedPart (P.shape pages.old).pages script.now d
+        (P.printed pages.old) (P.printed pages.new)) }
+    ensures sound { P.tells → (d : Database)
+        → IsAtRest (P.shape pages.old).pages (P.contents pages.old) d
+        → IfErr result IsNoDamageOrLacks }
+{
+    count_script(script);
+    answer_script(alloc, script, pages)
+}
