@@ -1,4 +1,4 @@
-//! `isp FILE run`: runs the script of standard input, and prints its answers.
+//! `isp FILE make` makes a database file; `isp FILE run` runs the script of standard input on it, and prints its answers.
 #![tactic(auto)]
 
 use isp_disk::{FileWorld, StdinSource};
@@ -57,7 +57,11 @@ fn say<R: Eprint>(rt: &R, status: Status) -> io::Result<()> {
         Status::Done => Ok(()),
         Status::Usage => eprintln!(rt; "isp: usage"),
         Status::BadScript { line } => eprintln!(rt; "isp: bad script at line {line}"),
+        Status::NotMade => eprintln!(rt; "isp: not made"),
+        Status::AlreadyMade => eprintln!(rt; "isp: already made"),
+        Status::Damaged { page, rule } => eprintln!(rt; "isp: damaged page {page} rule {rule}"),
         Status::ReadFault => eprintln!(rt; "isp: read fault"),
+        Status::DiskFault => eprintln!(rt; "isp: disk fault"),
         Status::PrintFault => eprintln!(rt; "isp: print fault"),
         Status::OutOfMemory => eprintln!(rt; "isp: out of memory"),
     }

@@ -1,4 +1,5 @@
-mod HistoryLaws
+pub mod PlaceLaws
 pub mod RunLaws
-pub mod SqlLaws
-pub mod TellLaws
+pub mod WorkLaws
+pub mod StartLaws
+pub mod CommandLaws

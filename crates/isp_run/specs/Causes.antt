@@ -1,6 +1,5 @@
 -- Why a call ended before its end: a fault whose count rose, or want of memory.
 use Rattle.std.specs.Prelude.{◌≡◌, ℕ, ◌≤◌, List, ◌++◌, length, Result, OnOk, IfErr}
-use Rattle.isp_disk.specs.Moments.{Image}
 use Rattle.isp_disk.specs.Outside.{Rose}
 use Rattle.isp_run.specs.declared.status.Status.{Status}
 use Rattle.isp_run.specs.declared.stop.Stop.{Stop}
@@ -20,11 +19,6 @@ pub record HasStops {T : Type 0} (before now : ℕ) (result : Result T Stop) : T
 pub record CountsAt (fault status : Status) (before now : ℕ) : Type 0 where
   pub rose : status ≡ fault → Rose before now
   pub stays : (status ≡ fault → ⊥) → now ≡ before
-
--- the bytes of the disk and its count of faults are as before: no call of it was made
-pub record KeepsDisk (image : Image) (faults : ℕ) (image_now : Image) (faults_now : ℕ) : Type 0 where
-  pub bytes : image_now ≡ image
-  pub count : faults_now ≡ faults
 
 -- of what was left of a source at most so many bytes were taken
 pub record Takes (most : ℕ) (before now : List ℕ) : Type 0 where

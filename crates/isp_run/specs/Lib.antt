@@ -1,8 +1,7 @@
+pub mod Asking
 pub mod Causes
 pub mod Ending
-pub mod History
+pub mod Files
 pub mod Ran
 pub mod Reading
-pub mod Sql
-pub mod Telling
-pub mod Words
+pub mod Working

@@ -1,35 +1,20 @@
-use Rattle.isp_run.proofs.RunLaws.{all_lines, front, not_bad, ran}
+use Rattle.std.proofs.Common.{Some, ◌∙◌, ap, sym}
+use Rattle.std.specs.Prelude.{map, string_bytes}
+use Rattle.isp_words.specs.Commands.{command_of}
+use Rattle.isp_run.proofs.CommandLaws.{due_on_run, made_numbers}
 use Rattle.isp_run.proofs.run.Goals as goal
 
-pub returns-in-Ok-clause-serial : goal.returns-in-Ok-clause-serial
-returns-in-Ok-clause-serial g c = λ done source world.
-    let is = rw c.in-Ok-Script.field-0-is at c.in-Ok-Script.ensures.found source in
-    let told = (c.in-Ok.ensures.tells.told world).whole in
-    (c.in-Ok-Script.read, is, ran c.in-Ok-Script.read (g.S.Source.left c.args.script.now) (g.W.World.printed c.args.world) (g.W.World.printed c.play.new.world) is c.play.ensures.small told)
+pub make_file-requires-clause-fanout : goal.make_file-requires-clause-fanout
+make_file-requires-clause-fanout g c =
+    (made_numbers (map string_bytes c.args.words.now) c.in-Some-Make.pages c.in-Some-Make.fanout (sym c.in-Some-Make.ensures ∙ ap Some c.in-Some-Make.field-0-is)).1
 
-pub returns-in-Ok-clause-front : goal.returns-in-Ok-clause-front
-returns-in-Ok-clause-front g c = λ source world.
-    let is = rw c.in-Ok-Script.field-0-is at c.in-Ok-Script.ensures.found source in
-    let end = (rw c.in-Ok-Script.field-0-is at c.in-Ok-Script.ensures.end source) tt in
-    let told = (c.in-Ok.ensures.tells.told world).whole in
-    front c.in-Ok-Script.read (g.S.Source.left c.args.script.now) (g.S.Source.left c.find_script.new.source) (g.W.World.printed c.args.world) (g.W.World.printed c.play.new.world) end is c.play.ensures.small
-    (all_lines c.in-Ok-Script.read (g.W.World.printed c.args.world) (g.W.World.printed c.play.new.world) told)
+pub returns-in-Some-Make-clause-tidy : goal.returns-in-Some-Make-clause-tidy
+returns-in-Some-Make-clause-tidy g c = λ world is. (c.make_file.ensures.made world is).tidy
 
-pub returns-in-Err-Fault-play-clause-front : goal.returns-in-Err-Fault-play-clause-front
-returns-in-Err-Fault-play-clause-front g c = λ source world.
-    let is = rw c.in-Ok-Script.field-0-is at c.in-Ok-Script.ensures.found source in
-    let end = (rw c.in-Ok-Script.field-0-is at c.in-Ok-Script.ensures.end source) tt in
-    front c.in-Ok-Script.read (g.S.Source.left c.args.script.now) (g.S.Source.left c.find_script.new.source) (g.W.World.printed c.args.world) (g.W.World.printed c.play.new.world) end is c.play.ensures.small
-    (c.in-Err-Fault-play.ensures.tells.told world).part
-
-pub returns-in-Ok-Script-clause-front : goal.returns-in-Ok-Script-clause-front
-returns-in-Ok-Script-clause-front g c = λ source world.
-    let is = rw c.in-Ok-Script.field-0-is at c.in-Ok-Script.ensures.found source in
-    let end = (rw c.in-Ok-Script.field-0-is at c.in-Ok-Script.ensures.end source) tt in
-    front c.in-Ok-Script.read (g.S.Source.left c.args.script.now) (g.S.Source.left c.find_script.new.source) (g.W.World.printed c.args.world) (g.W.World.printed c.play.new.world) end is c.play.ensures.small
-    (c.in-Err-Memory-play.ensures.tells.told world).part
-
-pub returns-in-Ok-Bad-clause-complete : goal.returns-in-Ok-Bad-clause-complete
-returns-in-Ok-Bad-clause-complete g c = λ source has words calm quiet.
-    let found = rw c.in-Ok-Bad.field-0-is at c.in-Ok-Bad.ensures.found source in
-    not_bad (g.S.Source.left c.args.script.now) c.in-Ok-Bad.line found has
+pub returns-in-Some-Run-clause-complete : goal.returns-in-Some-Run-clause-complete
+returns-in-Some-Run-clause-complete g c = λ source world.
+    due_on_run (command_of (map string_bytes c.args.words.now)) c.run_file.result.0 (g.S.Source.left c.args.script.now) (g.W.World.image c.args.world)
+    (g.S.Source.faults c.args.script.now) (g.S.Source.faults c.run_file.new.script) (g.W.World.disk_faults c.args.world) (g.W.World.disk_faults c.run_file.result.1)
+    (g.W.World.print_faults c.args.world) (g.W.World.print_faults c.run_file.result.1)
+    c.run_file.ensures.statuses (c.run_file.ensures.gate world).1 (λ line is. c.run_file.ensures.bad line is source) (c.run_file.ensures.damaged world)
+    c.run_file.ensures.read_fault c.run_file.ensures.disk_fault c.run_file.ensures.print_fault
