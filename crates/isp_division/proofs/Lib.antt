@@ -1,0 +1,4 @@
+mod CutLaws
+mod EntryLaws
+mod PackLaws
+mod PartLaws
