@@ -1,2 +1,3 @@
 pub mod ServedLaws
 pub mod NeededLaws
+pub mod OutgrownLaws

@@ -1,2 +1,3 @@
 pub mod ServedRuns
 pub mod NeededClauses
+pub mod OutgrownRows

@@ -4,5 +4,5 @@
 mod needed;
 mod served;
 
-pub use needed::law_known_is_needed;
+pub use needed::{law_known_is_needed, law_rests_is_needed};
 pub use served::{law_overtaking_is_serial, law_wrong_answers_are_none};
