@@ -12,6 +12,7 @@ use Rattle.isp_wkt.specs.Words.{word}
 use Rattle.isp_plain.specs.Texts.{deadlock_text, end_text, full_text, ok_text}
 use Rattle.isp_plain.specs.Refusals.{state, words}
 use Rattle.isp_plain.specs.RowBytes.{row_bytes}
+use Rattle.isp_plain.specs.Tables.{Table}
 use Rattle.isp_plain.specs.declared.statement.Statement.{Statement}
 use Rattle.isp_plain.specs.declared.statement.Statement.TheVariants.{Begin, Commit}
 use Rattle.isp_plain.specs.declared.value.Column.{Column}
@@ -21,25 +22,28 @@ use Rattle.isp_reclock.specs.declared.modes.Mode.{Mode}
 use Rattle.isp_reclock.specs.declared.modes.Mode.TheVariants.{IS, IX, S, X}
 use Rattle.isp_reclock.specs.Modes.{is_mode}
 use Rattle.isp_reclock.specs.Tables.{holds, is_lock, key_lock, table_lock, takes}
-use Rattle.isp_serial.specs.Serial.{none_pending}
-use Rattle.isp_events.specs.Stored.{KeptRow, StoredTable, Version, indexed, no_table, number_at, rows_of, table_at}
+use Rattle.isp_serial.specs.Answers.{Answer}
+use Rattle.isp_serial.specs.Serial.{Agrees, EndsAll, none_pending}
+use Rattle.isp_events.specs.Stored.{KeptRow, StoredTable, Version, indexed, no_table, number_at, present, row_of, rows_of, table_at}
 use Rattle.isp_events.specs.Sessions.{Note, SessionState, UndoEntry, Work, fresh, session_at}
-use Rattle.isp_events.specs.Views.{committed}
+use Rattle.isp_events.specs.State.{State}
+use Rattle.isp_events.specs.Views.{beginning_view, committed, committed_row, first_image, has_written, row_or, seen, statement_undo}
 use Rattle.isp_events.specs.Ways.{IsDefinition, Machine, is_geometry, is_indexed}
 use Rattle.isp_events.specs.Next.{next}
+use Rattle.isp_events.specs.Lines.{answers_in}
 use Rattle.isp_events.specs.Events.{MayFollow, after_all, lines_of_all}
-use Rattle.isp_event_laws.specs.SerialAfter.{replayed, serial_from}
+use Rattle.isp_event_laws.specs.SerialAfter.{becoming, replayed, serial_from}
 use Rattle.isp_event_laws.proofs.EventTests.{follow_by_test, follow_test}
 use Rattle.isp_order.specs.Locks.{HasNothing, HoldsIntention, lock_on}
 use Rattle.isp_order.specs.Trees.{HasEntries, IsKeyed, IsStored, StandsAt, version_kept}
 use Rattle.isp_order.specs.InOrder.{InOrder, IsProper, IsRested, is_missing}
 use Rattle.isp_order.proofs.RestedLaws.{in_order}
 use Rattle.isp_order_whole.proofs.WholeLaws.{stays_in_order}
-use Rattle.isp_answers.specs.Told.{RestsOn}
+use Rattle.isp_answers.specs.Told.{AreBegun, RestsOn}
 use Rattle.isp_event_examples.specs.WrongRuns.{texts}
 use Rattle.isp_event_examples.proofs.LanguageLaws.{language_fits}
 use Rattle.isp_serial_examples.specs.NeededClauses.{texts_in}
-use Rattle.isp_serial_examples.specs.OutgrownRows.{RestsIsNeeded, answers_refused, answers_unlocked, emptying, growing, lengthening, long, notes_kept, notes_of, notes_row, notes_schema, one_long, refused, unlocked, until_committed, until_emptied, until_refused}
+use Rattle.isp_serial_examples.specs.OutgrownRows.{AnswerRests, IsToldUnlocked, IsTooLargeUnlocked, RestsIsNeeded, StandUnlocked, answers_refused, answers_unlocked, begun_answer, emptying, growing, lengthening, long, notes_kept, notes_of, notes_row, notes_schema, one_long, pending_refused, refused, refused_answer, unlocked, until_committed, until_emptied, until_refused}
 
 -- ---- the state is rested
 
@@ -317,19 +321,105 @@ fails : RestsOn growing unlocked 1 2 0 (notes_of long) lengthening → ⊥
 fails (inl t) = false≢true (sym (ap (λ (locks : List Lock). takes locks 1 t.key 1) locks_are) ∙ t.taken)
 fails (inr h) = false≢true (sym (ap (λ (locks : List Lock). holds locks (lock_on 1 1 (Some (pos 1)) X)) locks_are) ∙ h)
 
--- ---- another session makes the row small
+-- ---- what was told stands by the weaker clause
 
-committed_is : committed unlocked ≡ notes_of long ∷ []
+first : committed unlocked ≡ notes_of long ∷ []
 unfolding next
-committed_is = refl
+first = refl
+
+tell : answers_in (lines_of_all growing one_long until_refused) ≡ answers_refused
+unfolding next digits ok_text full_text end_text deadlock_text state words
+tell = refl
+
+-- what a session saw as its statement began
+abbrev seen_by : State → SessionState → List Table
+seen_by now session =
+    seen (λ table key. row_or (first_image (statement_undo session) table key) (cond (has_written session table key) (row_of (present (table_at now.tables table) key)) (committed_row now table key)))
+    now.tables
+
+-- is what is committed, where it has nothing to undo
+sees_committed : (now : State) (s : ℕ) (session : SessionState) → session_at now.sessions s ≡ session → seen_by now session ≡ committed now → committed now ≡ beginning_view now s
+sees_committed now s session is e = sym e ∙ ap (seen_by now) (sym is)
+
+session_is : (s : ℕ) (session : SessionState) → session_at sessions_then s ≡ session → session_at unlocked.sessions s ≡ session
+session_is s session is = ap (λ (sessions : List SessionState). session_at sessions s) sessions_are ∙ is
+
+-- nothing was told to a session that hasn't begun
+nothing_told : (s : ℕ) (over : Bool) → session_at sessions_then s ≡ fresh over → IsToldUnlocked growing unlocked s []
+nothing_told s over is = record {
+  own = λ answer h. absurd h;
+  inside = sym (ap (λ (session : SessionState). session.inside) (session_is s (fresh over) is));
+  begun = tt;
+  left = committed unlocked;
+  stand = refl;
+  seen = λ quiet. sees_committed unlocked s (fresh over) (session_is s (fresh over) is) refl;
+}
+
+begins : Agrees growing.language growing.script false (notes_of long ∷ []) begun_answer (notes_of long ∷ [])
+unfolding digits ok_text full_text end_text deadlock_text state words
+begins = (refl, refl)
+
+refuses : Agrees growing.language growing.script true (notes_of long ∷ []) refused_answer (notes_of long ∷ [])
+unfolding digits ok_text full_text end_text deadlock_text state words
+refuses = (refl, refl)
+
+begins_alone : AnswerRests growing unlocked 1 false (notes_of long ∷ []) begun_answer
+unfolding digits full_text end_text deadlock_text state words
+begins_alone = tt
+
+too_large : IsTooLargeUnlocked (notes_of long) lengthening
+too_large = record { key = pos 1; row = notes_row long []; there = refl; outgrows = refl }
+
+refused_rests : AnswerRests growing unlocked 1 true (notes_of long ∷ []) refused_answer
+unfolding digits full_text end_text deadlock_text state words
+refused_rests = record { place = 0; table = notes_of long; place_is = refl; there = refl; rests = inl too_large }
+
+stands : StandUnlocked growing unlocked 1 false (notes_of long ∷ []) answers_refused (notes_of long ∷ [])
+unfolding ok_text
+stands = (notes_of long ∷ [], begins, begins_alone, (notes_of long ∷ [], refuses, refused_rests, refl))
+
+begun : AreBegun growing answers_refused
+unfolding ok_text
+begun = refl
+
+refused_told : IsToldUnlocked growing unlocked 1 answers_refused
+refused_told = record {
+  own = own;
+  inside = sym (ap (λ (session : SessionState). session.inside) (session_is 1 told_session refl));
+  begun = begun;
+  left = notes_of long ∷ [];
+  stand = subst (λ (tables : List Table). StandUnlocked growing unlocked 1 false tables answers_refused (notes_of long ∷ [])) (sym first) stands;
+  seen = λ quiet. sym first ∙ sees_committed unlocked 1 told_session (session_is 1 told_session refl) refl;
+}
+  where
+    own : (answer : Answer) → Has answers_refused answer → answer.session ≡ 1
+    own answer (inl e) = ap (λ (a : Answer). a.session) (sym e)
+    own answer (inr (inl e)) = ap (λ (a : Answer). a.session) (sym e)
+    own answer (inr (inr h)) = absurd h
+
+told : (s : ℕ) → IsToldUnlocked growing unlocked s (pending_refused s)
+told zero = nothing_told 0 true refl
+told (suc zero) = refused_told
+told (suc (suc zero)) = nothing_told 2 false refl
+told (suc (suc (suc s))) =
+    subst (λ (answers : List Answer). IsToldUnlocked growing unlocked (suc (suc (suc s))) answers)
+    (sym (ap (λ b. cond b answers_refused (cond b (begun_answer ∷ []) [])) (apart_back (suc (suc (suc s))) 1 (omega arith))))
+    (nothing_told (suc (suc (suc s))) true (rest_fresh 14 s))
+
+-- none of its answers is an end
+ended : EndsAll growing.language growing.script (committed one_long) none_pending answers_refused (committed unlocked) pending_refused
+unfolding next digits ok_text full_text end_text deadlock_text state words
+ended = (committed one_long, becoming none_pending 1 (begun_answer ∷ []), (refl, λ k. refl), (committed one_long, pending_refused, (refl, λ k. refl), (refl, refl)))
+
+-- ---- another session makes the row small
 
 goes_on : MayFollow growing 1 1 unlocked until_committed
 unfolding next
 goes_on = follow_by_test growing 1 1 unlocked until_committed refl
 
-emptied : committed (after_all growing unlocked until_emptied) ≡ notes_of [] ∷ []
+afterwards : committed (after_all growing unlocked until_emptied) ≡ notes_of [] ∷ []
 unfolding next
-emptied = refl
+afterwards = refl
 
 agrees : replayed growing.language growing.script false (notes_of long ∷ []) answers_refused ≡ Some (notes_of long ∷ [])
 unfolding next digits ok_text full_text end_text deadlock_text state words
@@ -350,14 +440,17 @@ not_serial = refl
 pub rests_is_needed : RestsIsNeeded
 rests_is_needed = record {
   happen = happen;
+  tell = tell;
   before = before;
   in_order = unlocked_in_order before;
-  committed_is = committed_is;
-  agrees = agrees;
-  weaker = record { key = pos 1; row = notes_row long []; there = refl; outgrows = refl };
+  on_course = λ s work h quiet. not_at_work s work h;
+  ended = ended;
+  weaker = told;
   fails = fails;
   goes_on = goes_on;
-  emptied = emptied;
+  first = first;
+  agrees = agrees;
+  afterwards = afterwards;
   agrees_no_more = agrees_no_more;
   answered = answered;
   not_serial = not_serial;
