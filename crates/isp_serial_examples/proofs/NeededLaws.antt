@@ -33,7 +33,7 @@ use Rattle.isp_serial.specs.Serial.{none_pending}
 use Rattle.isp_events.specs.Ways.{Machine}
 use Rattle.isp_events.specs.Next.{next}
 use Rattle.isp_events.specs.Events.{Event, MayFollow, after_all, lines_of_all}
-use Rattle.isp_event_laws.proofs.EventTests.{follow_by_test, follow_test}
+use Rattle.isp_event_laws.proofs.EventTests.{follow_by_test}
 use Rattle.isp_order.specs.Searches.{AreKnown, items_of}
 use Rattle.isp_order.specs.InOrder.{InOrder, IsProper}
 use Rattle.isp_order.proofs.RestedLaws.{in_order}

@@ -1,14 +1,10 @@
 -- A row that would get too large is made small by another session, by computation.
-use Rattle.std.proofs.Common.{◌≡◌, ◌⊎◌, ◌∙◌, ◌+◌, ◌<◌, ◌==◌, ◌&&◌, ◌||◌, inl, inr, refl, sym, ap, subst, ℕ, ℤ, zero, suc, pos, cond, Bool, true, false, Some, None, List, [], ◌∷◌, arith, eqb-true}
+use Rattle.std.proofs.Common.{◌≡◌, ◌∙◌, ◌+◌, ◌<◌, ◌==◌, ◌&&◌, ◌||◌, inl, inr, refl, sym, ap, subst, ℕ, ℤ, zero, suc, pos, cond, Bool, true, false, Some, None, List, [], ◌∷◌, arith, eqb-true}
 use Rattle.std.specs.Prelude.{codes, replicate, slice_get, slice_index_or}
 use Rattle.std.specs.Fmt.{digits}
-use Rattle.std.specs.Option.{option_eq}
-use Rattle.std.specs.Ordering.{int_eq}
 use Rattle.std.proofs.lemmas.Bool.{false≢true}
 use Rattle.isp_base.specs.Lists.{Has}
 use Rattle.isp_waits.specs.Graphs.{WaitsFor, has, waits_of}
-use Rattle.isp_waits.specs.Levels.{reaches, walk}
-use Rattle.isp_wkt.specs.Words.{word}
 use Rattle.isp_plain.specs.Texts.{deadlock_text, end_text, full_text, ok_text}
 use Rattle.isp_plain.specs.Refusals.{state, words}
 use Rattle.isp_plain.specs.RowBytes.{row_bytes}
@@ -20,7 +16,6 @@ use Rattle.isp_plain.specs.declared.value.Kind.TheVariants.{BigInt, Geo}
 use Rattle.isp_reclock.specs.declared.entries.Lock.{Lock}
 use Rattle.isp_reclock.specs.declared.modes.Mode.{Mode}
 use Rattle.isp_reclock.specs.declared.modes.Mode.TheVariants.{IS, IX, S, X}
-use Rattle.isp_reclock.specs.Modes.{is_mode}
 use Rattle.isp_reclock.specs.Tables.{holds, is_lock, key_lock, table_lock, takes}
 use Rattle.isp_serial.specs.Answers.{Answer}
 use Rattle.isp_serial.specs.Serial.{Agrees, EndsAll, none_pending}
@@ -28,19 +23,18 @@ use Rattle.isp_events.specs.Stored.{KeptRow, StoredTable, Version, indexed, no_t
 use Rattle.isp_events.specs.Sessions.{Note, SessionState, UndoEntry, Work, fresh, session_at}
 use Rattle.isp_events.specs.State.{State}
 use Rattle.isp_events.specs.Views.{beginning_view, committed, committed_row, first_image, has_written, row_or, seen, statement_undo}
-use Rattle.isp_events.specs.Ways.{IsDefinition, Machine, is_geometry, is_indexed}
+use Rattle.isp_events.specs.Ways.{IsDefinition, is_indexed}
 use Rattle.isp_events.specs.Next.{next}
 use Rattle.isp_events.specs.Lines.{answers_in}
 use Rattle.isp_events.specs.Events.{MayFollow, after_all, lines_of_all}
 use Rattle.isp_event_laws.specs.SerialAfter.{becoming, replayed, serial_from}
-use Rattle.isp_event_laws.proofs.EventTests.{follow_by_test, follow_test}
+use Rattle.isp_event_laws.proofs.EventTests.{follow_by_test}
 use Rattle.isp_order.specs.Locks.{HasNothing, HoldsIntention, lock_on}
 use Rattle.isp_order.specs.Trees.{HasEntries, IsKeyed, IsStored, StandsAt, version_kept}
 use Rattle.isp_order.specs.InOrder.{InOrder, IsProper, IsRested, is_missing}
 use Rattle.isp_order.proofs.RestedLaws.{in_order}
 use Rattle.isp_order_whole.proofs.WholeLaws.{stays_in_order}
 use Rattle.isp_answers.specs.Told.{AreBegun, RestsOn}
-use Rattle.isp_event_examples.specs.WrongRuns.{texts}
 use Rattle.isp_event_examples.proofs.LanguageLaws.{language_fits}
 use Rattle.isp_serial_examples.specs.NeededClauses.{texts_in}
 use Rattle.isp_serial_examples.specs.OutgrownRows.{AnswerRests, IsToldUnlocked, IsTooLargeUnlocked, RestsIsNeeded, StandUnlocked, answers_refused, answers_unlocked, begun_answer, emptying, growing, lengthening, long, notes_kept, notes_of, notes_row, notes_schema, one_long, pending_refused, refused, refused_answer, unlocked, until_committed, until_emptied, until_refused}
@@ -101,6 +95,7 @@ is_definition = record { first = record { name = codes "id"; kind = BigInt; inde
   where
     plain : (c column : Column) → c.indexed ≡ false → Some c ≡ Some column → column.indexed ≡ true → column.kind ≡ Geo
     plain c column none h k = absurd (false≢true (sym none ∙ (ap (λ (x : Column). x.indexed) (some_is c column h) ∙ k)))
+
     trees : (number : ℕ) (column : Column) → slice_get notes_schema.columns number ≡ Some column → column.indexed ≡ true → column.kind ≡ Geo
     trees zero column h k = plain _ column refl h k
     trees (suc zero) column h k = plain _ column refl h k

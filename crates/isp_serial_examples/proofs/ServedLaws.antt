@@ -1,5 +1,5 @@
 -- The run is one of the machine's, from a rested state, and so serial.
-use Rattle.std.proofs.Common.{◌≡◌, ◌∙◌, refl, sym, ap, ℤ, List, [], ◌∷◌, pos, Option, Some, None}
+use Rattle.std.proofs.Common.{◌≡◌, ◌∙◌, sym, ap, ℤ, List, [], ◌∷◌, pos, Some, None}
 use Rattle.std.specs.Option.{option_map}
 use Rattle.isp_plain.specs.declared.statement.Statement.{Statement}
 use Rattle.isp_plain.specs.declared.statement.Statement.TheVariants.{Begin, Commit, Insert}
@@ -12,7 +12,7 @@ use Rattle.isp_event_laws.specs.SerialAfter.{serial_from}
 use Rattle.isp_event_laws.proofs.SerialLaws.{serial_computes}
 use Rattle.isp_order.specs.InOrder.{IsProper}
 use Rattle.isp_event_examples.specs.Points.{five, named_p, point_row, points_meeting}
-use Rattle.isp_event_examples.specs.Overtaken.{SplitOvertakes, overtaking, overtaking_lines}
+use Rattle.isp_event_examples.specs.Overtaken.{overtaking, overtaking_lines}
 use Rattle.isp_event_examples.specs.Deleting.{keys_in}
 use Rattle.isp_event_examples.specs.RightAnswers.{keys_after}
 use Rattle.isp_event_examples.proofs.LanguageLaws.{language_fits}
