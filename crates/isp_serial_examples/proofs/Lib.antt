@@ -1,3 +1,4 @@
 pub mod ServedLaws
 pub mod NeededLaws
 pub mod OutgrownLaws
+pub mod LeftOutLaws

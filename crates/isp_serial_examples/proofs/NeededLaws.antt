@@ -42,6 +42,7 @@ use Rattle.isp_order_examples.proofs.RestedPointLaws.{five_rested}
 use Rattle.isp_event_examples.specs.Points.{adding_point, five, machine_of, points_meeting}
 use Rattle.isp_event_examples.specs.WrongRuns.{texts}
 use Rattle.isp_event_examples.proofs.LanguageLaws.{language_fits}
+use Rattle.isp_serial_examples.proofs.LeftOutLaws.{left_out_in_order}
 use Rattle.isp_serial_examples.specs.NeededClauses.{AreKnownOrOwn, IsPlacedByOwn, KnownIsNeeded, KnownOrOwn, answers_left_out, left_out, looking, texts_in, to_commit, until_leaf}
 
 -- ---- events lead from the five points to states in order
@@ -243,11 +244,15 @@ not_serial = refl
 abbrev looking_statements : List Statement
 looking_statements = Begin ∷ adding_point 6 1 1 ∷ points_meeting 0 0 2 2 ∷ Commit ∷ []
 
+looking_in_order : InOrder looking (after_all looking five until_leaf)
+looking_in_order = led looking_statements (texts (0 ∷ 1 ∷ 2 ∷ 3 ∷ [])) [] [] until_leaf looking_happens
+
 pub known_is_needed : KnownIsNeeded
 known_is_needed = record {
   happen = looking_happens;
-  in_order = led looking_statements (texts (0 ∷ 1 ∷ 2 ∷ 3 ∷ [])) [] [] until_leaf looking_happens;
-  weaker = one_is_weaker left_out.tables left_out.searches left_out.sessions the_search one_search lacks;
+  in_order = looking_in_order;
+  weaker = left_out_in_order looking_in_order (AreKnownOrOwn left_out.tables left_out.searches left_out.sessions)
+      (one_is_weaker left_out.tables left_out.searches left_out.sessions the_search one_search lacks);
   fails = one_fails left_out.tables left_out.searches left_out.sessions the_search one_search lacks;
   goes_on = goes_on;
   answered = answered;

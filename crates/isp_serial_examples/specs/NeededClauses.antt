@@ -18,8 +18,11 @@ use Rattle.isp_events.specs.Ways.{Machine}
 use Rattle.isp_events.specs.Lines.{answers_in}
 use Rattle.isp_events.specs.Events.{Event, MayFollow, after_all, lines_of_all, with_nothing}
 use Rattle.isp_event_laws.specs.SerialAfter.{serial_from}
-use Rattle.isp_order.specs.Searches.{AreKnown, items_of}
-use Rattle.isp_order.specs.InOrder.{InOrder}
+use Rattle.isp_order.specs.Trees.{AreEntered, AreKeyed, AreNamed, AreNoted, AreNumbered, AreRestorable, AreWhole, HaveOneStatus}
+use Rattle.isp_order.specs.Locks.{AreCompatible, AreIdle, AreIntended, AreLocked, AreWaiting, HaveNoCycle}
+use Rattle.isp_order.specs.Searches.{AllBelong, AreCovered, AreKnown, items_of}
+use Rattle.isp_order.specs.Work.{AreAllBefore, AreBound, AreChanging, AreOnPaths, AreStanding, HaveCollected, HaveKeys, HaveScanned, HaveTable, HaveWritten}
+use Rattle.isp_order.specs.InOrder.{AreCounted, InOrder}
 use Rattle.isp_event_examples.specs.Points.{adding_point, five, goes_down, machine_of, nothing, points_meeting, puts_on}
 use Rattle.isp_event_examples.specs.WrongMachines.{own_unseen}
 use Rattle.isp_event_examples.specs.WrongRuns.{texts}
@@ -49,6 +52,37 @@ abbrev pub AreKnownOrOwn : List StoredTable → List TreeSearch → List Session
 AreKnownOrOwn tables searches sessions =
     (x : TreeSearch) → Has searches x → KnownOrOwn (tree_of (table_at tables x.table) x.column) x.search (items_of sessions x.table x.column)
 
+-- in order, with another clause in place of *known*
+pub record IsInOrderWith (m : Machine) (state : State) (Clause : Type 0) : Type 0 where
+  pub counted : AreCounted state
+  pub whole : AreWhole state.tables
+  pub keyed : AreKeyed state.tables
+  pub entered : AreEntered state.tables state.sessions
+  pub numbered : AreNumbered state.tables state.entries
+  pub noted : AreNoted state.tables state.sessions state.queue
+  pub one_status : HaveOneStatus state.tables state.sessions state.queue
+  pub named : AreNamed state.tables state.sessions
+  pub restorable : AreRestorable state.tables state.sessions
+  pub no_conflict : AreCompatible state.locks
+  pub intended : AreIntended state.locks state.searches
+  pub written_locked : AreLocked state.locks state.sessions
+  pub idle : AreIdle state.locks state.searches state.sessions state.waits
+  pub waiting : AreWaiting m state.tables state.locks state.searches state.sessions state.waits
+  pub no_cycle : HaveNoCycle state.waits
+  pub covered : AreCovered state.tables state.searches
+  pub other : Clause
+  pub belongs : AllBelong m.ways state.tables state.searches state.sessions
+  pub bound : AreBound m state.tables state.sessions
+  pub table_locked : HaveTable m.ways state.tables state.locks state.sessions
+  pub keys_locked : HaveKeys m.ways state.tables state.locks state.searches state.sessions
+  pub scanned : HaveScanned state.tables state.sessions
+  pub standing : AreStanding state.tables state.sessions
+  pub changing : AreChanging state.tables state.locks state.sessions
+  pub collected : HaveCollected state.tables state.sessions
+  pub written : HaveWritten state.sessions
+  pub before : AreAllBefore state.sessions
+  pub paths : AreOnPaths state.tables state.sessions
+
 -- a session adds a row, and then looks for it
 abbrev pub looking : Machine
 looking = machine_of (Begin ∷ adding_point 6 1 1 ∷ points_meeting 0 0 2 2 ∷ Commit ∷ []) (texts (0 ∷ 1 ∷ 2 ∷ 3 ∷ [])) [] []
@@ -71,7 +105,7 @@ answers_left_out = answers_in (lines_of_all looking five until_leaf ++ lines_of_
 pub record KnownIsNeeded : Type 0 where
   pub happen : MayFollow looking 1 1 five until_leaf
   pub in_order : InOrder looking (after_all looking five until_leaf)
-  pub weaker : AreKnownOrOwn left_out.tables left_out.searches left_out.sessions
+  pub weaker : IsInOrderWith looking left_out (AreKnownOrOwn left_out.tables left_out.searches left_out.sessions)
   pub fails : AreKnown left_out.tables left_out.searches left_out.sessions → ⊥
   pub goes_on : MayFollow looking 1 1 left_out to_commit
   pub answered : texts_in answers_left_out ≡ codes "OK" ∷ codes "OK 1 rows" ∷ codes "OK 1 rows (1,POINT(0 0))" ∷ codes "OK" ∷ []
