@@ -1,5 +1,5 @@
 -- The state in which a search has left out an entry of its own transaction has all other clauses.
-use Rattle.std.proofs.Common.{◌≡◌, ◌⊎◌, ◌∙◌, ◌<◌, ◌≤◌, ◌==◌, ◌&&◌, inl, inr, refl, sym, ap, subst, ℕ, ℤ, zero, suc, pos, cond, Bool, true, false, Option, Some, None, List, [], ◌∷◌, length, arith}
+use Rattle.std.proofs.Common.{◌≡◌, ◌⊎◌, ◌∙◌, ◌≤◌, ◌==◌, inl, inr, refl, sym, ap, subst, ℕ, ℤ, zero, suc, pos, cond, Bool, true, false, Option, Some, None, List, [], ◌∷◌, length, arith}
 use Rattle.std.specs.Prelude.{filter_map, replicate, slice_index_or}
 use Rattle.std.proofs.lemmas.Bool.{false≢true}
 use Rattle.isp_base.specs.Lists.{Has}
@@ -7,22 +7,21 @@ use Rattle.isp_geom.specs.Bounds.{points_of}
 use Rattle.isp_geom.specs.Spelling.{spelling}
 use Rattle.isp_waits.specs.Graphs.{WaitsFor, has, waits_of}
 use Rattle.isp_plain.specs.declared.value.Row.{Row}
-use Rattle.isp_reclock.specs.declared.entries.Lock.{Lock}
 use Rattle.isp_forest.specs.Search.{Covered}
 use Rattle.isp_laws.specs.Examples.{box}
 use Rattle.isp_laws.specs.SearchExamples.{meets_box}
 use Rattle.isp_searches.proofs.CoveredByTests.{covered_done}
 use Rattle.isp_events.specs.Stored.{StoredTable, Version, table_at, tree_of}
 use Rattle.isp_events.specs.Sessions.{by_placing, Note, Phase, locking, visiting, SessionState, UndoEntry, was_absent, Work, fresh, session_at}
-use Rattle.isp_events.specs.State.{Queued, State, TreeSearch}
+use Rattle.isp_events.specs.State.{State, TreeSearch}
 use Rattle.isp_events.specs.Views.{has_written}
-use Rattle.isp_events.specs.Ways.{Machine, Way, by_box}
+use Rattle.isp_events.specs.Ways.{Way, by_box}
 use Rattle.isp_events.specs.Next.{EventKind, next, table_mode, visits}
 use Rattle.isp_events.specs.Reading.{is_of}
 use Rattle.isp_events.specs.Events.{after_all, with_nothing}
 use Rattle.isp_order.specs.Locks.{AreIdle, AreLocked, HasNothing, Holds, HoldsIntention, IsIdle}
 use Rattle.isp_order.specs.Searches.{Belongs, IsOfWork}
-use Rattle.isp_order.specs.Trees.{AreEntered, AreNamed, AreNoted, AreRestorable, HaveOneStatus, IsDead, IsOfWriter, IsPending, IsRestorable, IsSettled, NamesOwn, WouldRestore, placed_in}
+use Rattle.isp_order.specs.Trees.{AreEntered, AreNamed, AreNoted, AreRestorable, HaveOneStatus, IsOfWriter, IsPending, IsRestorable, IsSettled, NamesOwn, WouldRestore, placed_in}
 use Rattle.isp_order.specs.Work.{AreAllBefore, AreSought, HasKeys, HasWritten, HaveTable, IsBound, IsChanging, IsCollecting, IsOnPath, IsReadOf, is_by_scan, row_before, undo_since, way_of}
 use Rattle.isp_order.specs.InOrder.{InOrder}
 use Rattle.isp_event_examples.specs.Points.{five, points_meeting}
