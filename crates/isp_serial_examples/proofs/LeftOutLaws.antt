@@ -1,24 +1,35 @@
 -- The state in which a search has left out an entry of its own transaction has all other clauses.
 use Rattle.std.proofs.Common.{◌≡◌, ◌⊎◌, ◌∙◌, ◌≤◌, ◌==◌, inl, inr, refl, sym, ap, subst, ℕ, ℤ, zero, suc, pos, cond, Bool, true, false, Option, Some, None, List, [], ◌∷◌, length, arith}
-use Rattle.std.specs.Prelude.{filter_map, replicate, slice_index_or}
+use Rattle.std.specs.Prelude.{filter_map, replicate}
+use Rattle.std.specs.Fmt.{digits}
 use Rattle.std.proofs.lemmas.Bool.{false≢true}
 use Rattle.isp_base.specs.Lists.{Has}
 use Rattle.isp_geom.specs.Bounds.{points_of}
 use Rattle.isp_geom.specs.Spelling.{spelling}
 use Rattle.isp_waits.specs.Graphs.{WaitsFor, has, waits_of}
 use Rattle.isp_plain.specs.declared.value.Row.{Row}
+use Rattle.isp_plain.specs.Tables.{Table}
+use Rattle.isp_plain.specs.Texts.{deadlock_text, end_text, full_text, ok_text}
+use Rattle.isp_plain.specs.Refusals.{state, words}
+use Rattle.isp_serial.specs.Answers.{Answer}
+use Rattle.isp_serial.specs.Serial.{Agrees, EndsAll, none_pending}
+use Rattle.isp_reclock.specs.Tables.{takes}
 use Rattle.isp_forest.specs.Search.{Covered}
 use Rattle.isp_laws.specs.Examples.{box}
 use Rattle.isp_laws.specs.SearchExamples.{meets_box}
 use Rattle.isp_searches.proofs.CoveredByTests.{covered_done}
 use Rattle.isp_events.specs.Stored.{StoredTable, Version, table_at, tree_of}
-use Rattle.isp_events.specs.Sessions.{by_placing, Note, Phase, locking, visiting, SessionState, UndoEntry, was_absent, Work, fresh, session_at}
+use Rattle.isp_events.specs.Sessions.{by_placing, duplicate, too_large, Note, Phase, locking, visiting, SessionState, UndoEntry, was_absent, Work, fresh, session_at}
 use Rattle.isp_events.specs.State.{State, TreeSearch}
-use Rattle.isp_events.specs.Views.{has_written}
+use Rattle.isp_events.specs.Views.{beginning_view, committed, has_written}
 use Rattle.isp_events.specs.Ways.{Way, by_box}
 use Rattle.isp_events.specs.Next.{EventKind, next, table_mode, visits}
 use Rattle.isp_events.specs.Reading.{is_of}
-use Rattle.isp_events.specs.Events.{after_all, with_nothing}
+use Rattle.isp_events.specs.Lines.{answers_in}
+use Rattle.isp_events.specs.Events.{after_all, lines_of_all, with_nothing}
+use Rattle.isp_event_laws.specs.SerialAfter.{becoming}
+use Rattle.isp_answers.specs.Course.{AreOnCourse, IsOnCourse}
+use Rattle.isp_answers.specs.Told.{AreBegun, AreTold, IsTold, RestsAt, Stand}
 use Rattle.isp_order.specs.Locks.{AreIdle, AreLocked, HasNothing, Holds, HoldsIntention, IsIdle}
 use Rattle.isp_order.specs.Searches.{Belongs, IsOfWork}
 use Rattle.isp_order.specs.Trees.{AreEntered, AreNamed, AreNoted, AreRestorable, HaveOneStatus, IsOfWriter, IsPending, IsRestorable, IsSettled, NamesOwn, WouldRestore, placed_in}
@@ -26,7 +37,8 @@ use Rattle.isp_order.specs.Work.{AreAllBefore, AreSought, HasKeys, HasWritten, H
 use Rattle.isp_order.specs.InOrder.{InOrder}
 use Rattle.isp_event_examples.specs.Points.{five, points_meeting}
 use Rattle.isp_event_examples.specs.WrongMachines.{after_exchanged, own_unseen}
-use Rattle.isp_serial_examples.specs.NeededClauses.{IsInOrderWith, left_out, looking, until_leaf}
+use Rattle.isp_serial_examples.proofs.FreshLaws.{apart_back, nobody, none_some, rest_fresh, sees_committed, some_is}
+use Rattle.isp_serial_examples.specs.NeededClauses.{IsInOrderWith, answers_until_leaf, began, added, five_rows, left_out, looking, plain_five, pending_at_leaf, six_rows, until_leaf}
 
 -- ---- what there is before the visit, and behind it
 
@@ -89,22 +101,6 @@ same zero = record { number = refl; inside = refl; over = refl; undo = refl; not
 same (suc zero) = record { number = refl; inside = refl; over = refl; undo = refl; notes = refl; written = refl }
 same (suc (suc zero)) = record { number = refl; inside = refl; over = refl; undo = refl; notes = refl; written = refl }
 same (suc (suc (suc s))) = record { number = refl; inside = refl; over = refl; undo = refl; notes = refl; written = refl }
-
-rest_fresh : (n s : ℕ) → slice_index_or (replicate n (fresh true)) s (fresh true) ≡ fresh true
-rest_fresh zero s = refl
-rest_fresh (suc n) zero = refl
-rest_fresh (suc n) (suc s) = rest_fresh n s
-
-nobody : (n s : ℕ) → waits_of (replicate n []) s ≡ []
-nobody zero s = refl
-nobody (suc n) zero = refl
-nobody (suc n) (suc s) = nobody n s
-
-some_is : {A : Type 0} (x y : A) → Some x ≡ Some y → x ≡ y
-some_is x y h = cc
-
-none_some : {A : Type 0} (y : A) → None ≡ Some y → ⊥
-none_some y h = cc
 
 -- the session that searches is the one at work
 of_work : (P : ℕ → SessionState → Work → Type 0) → P 1 (session_in looked_up) (work_in looked_up)
@@ -373,3 +369,98 @@ pub left_out_in_order : InOrder looking to_leaf → (Clause : Type 0) → Clause
 left_out_in_order o Clause other =
     subst (λ (state : State). IsInOrderWith looking state Clause) (sym left_out_is)
     (with_clause to_leaf (record { sessions = sessions_before; waits = waits_before; searches = searches_before }) o leaf_covered Clause other)
+
+pub on_course : AreOnCourse left_out
+on_course = subst (λ (state : State). AreOnCourse state) (sym left_out_is) (λ s work is quiet. of_work (λ k session w. IsOnCourse (put to_leaf) k w) course s work is)
+  where
+    course : IsOnCourse (put to_leaf) 1 (work_in looked_up)
+    course = record {
+      complete = λ unfailed writes. absurd (false≢true (sym writes));
+      small = λ unfailed key row h. absurd h;
+      absent = λ unfailed inserts. absurd (false≢true inserts);
+      too_large = λ no. absurd (none_some too_large no);
+      duplicate = λ key no. absurd (none_some (duplicate key) no);
+    }
+
+-- ---- what was told
+
+pub tell : answers_in (lines_of_all looking five until_leaf) ≡ answers_until_leaf
+unfolding next points_of spelling digits ok_text full_text end_text deadlock_text state words
+tell = refl
+
+committed_is : committed left_out ≡ five_rows
+unfolding next points_of spelling
+committed_is = refl
+
+sees_six : beginning_view left_out 1 ≡ six_rows
+unfolding next points_of spelling
+sees_six = refl
+
+taken : takes left_out.locks 1 (pos 6) 1 ≡ true
+unfolding next points_of spelling
+taken = refl
+
+session_is : (s : ℕ) (session : SessionState) → session_at (sessions_in looked_up) s ≡ session → session_at left_out.sessions s ≡ session
+session_is s session is = ap (λ (sessions : List SessionState). session_at sessions s) sessions_behind ∙ is
+
+nothing_told : (s : ℕ) (over : Bool) → session_at (sessions_in looked_up) s ≡ fresh over → IsTold looking left_out s []
+nothing_told s over is = record {
+  own = λ answer h. absurd h;
+  inside = sym (ap (λ (session : SessionState). session.inside) (session_is s (fresh over) is));
+  begun = tt;
+  left = committed left_out;
+  stand = refl;
+  seen = λ quiet. sees_committed left_out s (fresh over) (session_is s (fresh over) is) refl;
+}
+
+begins : Agrees looking.language looking.script false five_rows began five_rows
+unfolding digits ok_text full_text end_text deadlock_text state words
+begins = (refl, refl)
+
+adds : Agrees looking.language looking.script true five_rows added six_rows
+unfolding digits ok_text full_text end_text deadlock_text state words
+adds = (refl, refl)
+
+begins_alone : RestsAt looking left_out 1 false five_rows began
+unfolding digits full_text end_text deadlock_text state words
+begins_alone = tt
+
+added_rests : RestsAt looking left_out 1 true five_rows added
+unfolding digits full_text end_text deadlock_text state words
+added_rests = record { place = 0; table = plain_five; place_is = refl; there = refl; rests = (taken, tt) }
+
+stands : Stand looking left_out 1 false five_rows answers_until_leaf six_rows
+unfolding ok_text
+stands = (five_rows, begins, begins_alone, (six_rows, adds, added_rests, refl))
+
+begun : AreBegun looking answers_until_leaf
+unfolding ok_text
+begun = refl
+
+looking_told : IsTold looking left_out 1 answers_until_leaf
+looking_told = record {
+  own = own;
+  inside = sym (ap (λ (session : SessionState). session.inside) (session_is 1 (session_in looked_up) refl));
+  begun = begun;
+  left = six_rows;
+  stand = subst (λ (tables : List Table). Stand looking left_out 1 false tables answers_until_leaf six_rows) (sym committed_is) stands;
+  seen = λ quiet. sym sees_six;
+}
+  where
+    own : (answer : Answer) → Has answers_until_leaf answer → answer.session ≡ 1
+    own answer (inl e) = ap (λ (a : Answer). a.session) (sym e)
+    own answer (inr (inl e)) = ap (λ (a : Answer). a.session) (sym e)
+    own answer (inr (inr h)) = absurd h
+
+pub told : AreTold looking left_out pending_at_leaf
+told zero = nothing_told 0 true refl
+told (suc zero) = looking_told
+told (suc (suc zero)) = nothing_told 2 false refl
+told (suc (suc (suc s))) =
+    subst (λ (answers : List Answer). IsTold looking left_out (suc (suc (suc s))) answers)
+    (sym (ap (λ b. cond b answers_until_leaf (cond b (began ∷ []) [])) (apart_back (suc (suc (suc s))) 1 (omega arith))))
+    (nothing_told (suc (suc (suc s))) true (rest_fresh 14 s))
+
+pub ended : EndsAll looking.language looking.script (committed five) none_pending answers_until_leaf (committed left_out) pending_at_leaf
+unfolding next points_of spelling digits ok_text full_text end_text deadlock_text state words
+ended = (committed five, becoming none_pending 1 (began ∷ []), (refl, λ k. refl), (committed five, pending_at_leaf, (refl, λ k. refl), (refl, refl)))

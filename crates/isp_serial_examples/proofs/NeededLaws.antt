@@ -42,7 +42,7 @@ use Rattle.isp_order_examples.proofs.RestedPointLaws.{five_rested}
 use Rattle.isp_event_examples.specs.Points.{adding_point, five, machine_of, points_meeting}
 use Rattle.isp_event_examples.specs.WrongRuns.{texts}
 use Rattle.isp_event_examples.proofs.LanguageLaws.{language_fits}
-use Rattle.isp_serial_examples.proofs.LeftOutLaws.{left_out_in_order}
+use Rattle.isp_serial_examples.proofs.LeftOutLaws.{ended, left_out_in_order, on_course, tell, told}
 use Rattle.isp_serial_examples.specs.NeededClauses.{AreKnownOrOwn, IsPlacedByOwn, KnownIsNeeded, KnownOrOwn, answers_left_out, left_out, looking, texts_in, to_commit, until_leaf}
 
 -- ---- events lead from the five points to states in order
@@ -254,6 +254,10 @@ known_is_needed = record {
   weaker = left_out_in_order looking_in_order (AreKnownOrOwn left_out.tables left_out.searches left_out.sessions)
       (one_is_weaker left_out.tables left_out.searches left_out.sessions the_search one_search lacks);
   fails = one_fails left_out.tables left_out.searches left_out.sessions the_search one_search lacks;
+  on_course = on_course;
+  tell = tell;
+  ended = ended;
+  told = told;
   goes_on = goes_on;
   answered = answered;
   not_serial = not_serial;

@@ -1,6 +1,6 @@
 -- A row that would get too large is made small by another session, by computation.
-use Rattle.std.proofs.Common.{◌≡◌, ◌∙◌, ◌+◌, ◌<◌, ◌==◌, ◌&&◌, ◌||◌, inl, inr, refl, sym, ap, subst, ℕ, ℤ, zero, suc, pos, cond, Bool, true, false, Some, None, List, [], ◌∷◌, arith, eqb-true}
-use Rattle.std.specs.Prelude.{codes, replicate, slice_get, slice_index_or}
+use Rattle.std.proofs.Common.{◌≡◌, ◌∙◌, ◌+◌, ◌<◌, ◌==◌, ◌&&◌, ◌||◌, inl, inr, refl, sym, ap, subst, ℕ, ℤ, zero, suc, pos, cond, Bool, true, false, Some, None, List, [], ◌∷◌, arith}
+use Rattle.std.specs.Prelude.{codes, replicate, slice_get}
 use Rattle.std.specs.Fmt.{digits}
 use Rattle.std.proofs.lemmas.Bool.{false≢true}
 use Rattle.isp_base.specs.Lists.{Has}
@@ -19,10 +19,9 @@ use Rattle.isp_reclock.specs.declared.modes.Mode.TheVariants.{IS, IX, S, X}
 use Rattle.isp_reclock.specs.Tables.{holds, is_lock, key_lock, table_lock, takes}
 use Rattle.isp_serial.specs.Answers.{Answer}
 use Rattle.isp_serial.specs.Serial.{Agrees, EndsAll, none_pending}
-use Rattle.isp_events.specs.Stored.{KeptRow, StoredTable, Version, indexed, no_table, number_at, present, row_of, rows_of, table_at}
+use Rattle.isp_events.specs.Stored.{KeptRow, StoredTable, Version, indexed, no_table, number_at, rows_of, table_at}
 use Rattle.isp_events.specs.Sessions.{Note, SessionState, UndoEntry, Work, fresh, session_at}
-use Rattle.isp_events.specs.State.{State}
-use Rattle.isp_events.specs.Views.{beginning_view, committed, committed_row, first_image, has_written, row_or, seen, statement_undo}
+use Rattle.isp_events.specs.Views.{committed}
 use Rattle.isp_events.specs.Ways.{IsDefinition, is_indexed}
 use Rattle.isp_events.specs.Next.{next}
 use Rattle.isp_events.specs.Lines.{answers_in}
@@ -36,40 +35,11 @@ use Rattle.isp_order.proofs.RestedLaws.{in_order}
 use Rattle.isp_order_whole.proofs.WholeLaws.{stays_in_order}
 use Rattle.isp_answers.specs.Told.{AreBegun, RestsOn}
 use Rattle.isp_event_examples.proofs.LanguageLaws.{language_fits}
+use Rattle.isp_serial_examples.proofs.FreshLaws.{apart, apart_back, nobody, none_some, rest_fresh, sees_committed, some_is}
 use Rattle.isp_serial_examples.specs.NeededClauses.{texts_in}
 use Rattle.isp_serial_examples.specs.OutgrownRows.{AnswerRests, IsToldUnlocked, IsTooLargeUnlocked, RestsIsNeeded, StandUnlocked, answers_refused, answers_unlocked, begun_answer, emptying, growing, lengthening, long, notes_kept, notes_of, notes_row, notes_schema, one_long, pending_refused, refused, refused_answer, unlocked, until_committed, until_emptied, until_refused}
 
 -- ---- the state is rested
-
-some_is : {A : Type 0} (x y : A) → Some x ≡ Some y → x ≡ y
-some_is x y h = cc
-
-none_some : {A : Type 0} (y : A) → None ≡ Some y → ⊥
-none_some y h = cc
-
-nobody : (n s : ℕ) → waits_of (replicate n []) s ≡ []
-nobody zero s = refl
-nobody (suc n) zero = refl
-nobody (suc n) (suc s) = nobody n s
-
-rest_fresh : (n s : ℕ) → slice_index_or (replicate n (fresh true)) s (fresh true) ≡ fresh true
-rest_fresh zero s = refl
-rest_fresh (suc n) zero = refl
-rest_fresh (suc n) (suc s) = rest_fresh n s
-
-apart : (a b : ℕ) → a < b → (a == b) ≡ false
-apart a b lt = by_test (a == b) refl
-  where
-    by_test : (v : Bool) → (a == b) ≡ v → v ≡ false
-    by_test true e = let is : a ≡ b = eqb-true a b e in let no : ⊥ = omega (arith, lt, is) in absurd no
-    by_test false e = refl
-
-apart_back : (a b : ℕ) → b < a → (a == b) ≡ false
-apart_back a b lt = by_test (a == b) refl
-  where
-    by_test : (v : Bool) → (a == b) ≡ v → v ≡ false
-    by_test true e = let is : a ≡ b = eqb-true a b e in let no : ⊥ = omega (arith, lt, is) in absurd no
-    by_test false e = refl
 
 missing : (s : ℕ) → 2 < s → is_missing growing.script s ≡ true
 missing s above =
@@ -325,16 +295,6 @@ first = refl
 tell : answers_in (lines_of_all growing one_long until_refused) ≡ answers_refused
 unfolding next digits ok_text full_text end_text deadlock_text state words
 tell = refl
-
--- what a session saw as its statement began
-abbrev seen_by : State → SessionState → List Table
-seen_by now session =
-    seen (λ table key. row_or (first_image (statement_undo session) table key) (cond (has_written session table key) (row_of (present (table_at now.tables table) key)) (committed_row now table key)))
-    now.tables
-
--- is what is committed, where it has nothing to undo
-sees_committed : (now : State) (s : ℕ) (session : SessionState) → session_at now.sessions s ≡ session → seen_by now session ≡ committed now → committed now ≡ beginning_view now s
-sees_committed now s session is e = sym e ∙ ap (seen_by now) (sym is)
 
 session_is : (s : ℕ) (session : SessionState) → session_at sessions_then s ≡ session → session_at unlocked.sessions s ≡ session
 session_is s session is = ap (λ (sessions : List SessionState). session_at sessions s) sessions_are ∙ is

@@ -1,11 +1,13 @@
 -- A clause that is not stronger than it has to be: in a state a weaker one holds, and from it events lead to answers that are not serial. The
 -- table is that of the five points.
-use Rattle.std.specs.Prelude.{◌≡◌, ◌⊎◌, ℕ, ℤ, true, codes, List, [], ◌∷◌, ◌++◌, map, Some, None}
+use Rattle.std.specs.Prelude.{◌≡◌, ◌⊎◌, ℕ, ℤ, pos, true, codes, List, [], ◌∷◌, ◌++◌, map, Some, None}
 use Rattle.isp_base.specs.Lists.{Has}
 use Rattle.isp_mbr.specs.Predicates.{satisfies}
 use Rattle.isp_plain.specs.declared.statement.Statement.TheVariants.{Begin, Commit}
+use Rattle.isp_plain.specs.declared.value.Row.{Row}
+use Rattle.isp_plain.specs.Tables.{Table}
 use Rattle.isp_serial.specs.Answers.{Answer}
-use Rattle.isp_serial.specs.Serial.{none_pending}
+use Rattle.isp_serial.specs.Serial.{EndsAll, Pending, none_pending}
 use Rattle.isp_forest.specs.declared.entry.Entry.{Entry}
 use Rattle.isp_forest.specs.declared.entry.To.TheVariants as to
 use Rattle.isp_forest.specs.Tree.{Node, Tree, page_at}
@@ -17,13 +19,15 @@ use Rattle.isp_events.specs.Views.{committed}
 use Rattle.isp_events.specs.Ways.{Machine}
 use Rattle.isp_events.specs.Lines.{answers_in}
 use Rattle.isp_events.specs.Events.{Event, MayFollow, after_all, lines_of_all, with_nothing}
-use Rattle.isp_event_laws.specs.SerialAfter.{serial_from}
+use Rattle.isp_event_laws.specs.SerialAfter.{becoming, serial_from}
 use Rattle.isp_order.specs.Trees.{AreEntered, AreKeyed, AreNamed, AreNoted, AreNumbered, AreRestorable, AreWhole, HaveOneStatus}
 use Rattle.isp_order.specs.Locks.{AreCompatible, AreIdle, AreIntended, AreLocked, AreWaiting, HaveNoCycle}
 use Rattle.isp_order.specs.Searches.{AllBelong, AreCovered, AreKnown, items_of}
 use Rattle.isp_order.specs.Work.{AreAllBefore, AreBound, AreChanging, AreOnPaths, AreStanding, HaveCollected, HaveKeys, HaveScanned, HaveTable, HaveWritten}
 use Rattle.isp_order.specs.InOrder.{AreCounted, InOrder}
-use Rattle.isp_event_examples.specs.Points.{adding_point, five, goes_down, machine_of, nothing, points_meeting, puts_on}
+use Rattle.isp_answers.specs.Course.{AreOnCourse}
+use Rattle.isp_answers.specs.Told.{AreTold}
+use Rattle.isp_event_examples.specs.Points.{adding_point, five, goes_down, machine_of, named_p, nothing, point_row, points_meeting, points_schema, puts_on}
 use Rattle.isp_event_examples.specs.WrongMachines.{own_unseen}
 use Rattle.isp_event_examples.specs.WrongRuns.{texts}
 use Rattle.isp_order_examples.specs.BrokenClauses.{by, exchanged}
@@ -98,8 +102,38 @@ left_out = exchanged looking 1 with_nothing own_unseen (after_all looking five u
 abbrev pub to_commit : List Event
 to_commit = by 1 (nothing 3)
 
+-- what it was told till then
+abbrev pub began : Answer
+began = record { turn = 1; session = 1; number = 1; text = codes "OK" }
+
+abbrev pub added : Answer
+added = record { turn = 1; session = 1; number = 2; text = codes "OK 1 rows" }
+
+abbrev pub answers_until_leaf : List Answer
+answers_until_leaf = began ∷ added ∷ []
+
+abbrev pub pending_at_leaf : Pending
+pending_at_leaf = becoming (becoming none_pending 1 (began ∷ [])) 1 answers_until_leaf
+
 abbrev pub answers_left_out : List Answer
-answers_left_out = answers_in (lines_of_all looking five until_leaf ++ lines_of_all looking left_out to_commit)
+answers_left_out = answers_until_leaf ++ answers_in (lines_of_all looking left_out to_commit)
+
+-- the plain table of the five points, and with the sixth
+abbrev pub plain_row : ℕ → ℕ → ℕ → ℤ × Row
+plain_row key x y = (pos key, point_row key x y)
+
+abbrev pub plain_five : Table
+plain_five = record {
+  name = named_p;
+  schema = points_schema;
+  rows = plain_row 1 0 0 ∷ plain_row 2 10 0 ∷ plain_row 3 0 10 ∷ plain_row 4 10 10 ∷ plain_row 5 5 5 ∷ [];
+}
+
+abbrev pub five_rows : List Table
+five_rows = plain_five ∷ []
+
+abbrev pub six_rows : List Table
+six_rows = record plain_five { rows = plain_five.rows ++ plain_row 6 1 1 ∷ [] } ∷ []
 
 -- its answer lacks the row, which its transaction done again has
 pub record KnownIsNeeded : Type 0 where
@@ -107,6 +141,10 @@ pub record KnownIsNeeded : Type 0 where
   pub in_order : InOrder looking (after_all looking five until_leaf)
   pub weaker : IsInOrderWith looking left_out (AreKnownOrOwn left_out.tables left_out.searches left_out.sessions)
   pub fails : AreKnown left_out.tables left_out.searches left_out.sessions → ⊥
+  pub on_course : AreOnCourse left_out
+  pub tell : answers_in (lines_of_all looking five until_leaf) ≡ answers_until_leaf
+  pub ended : EndsAll looking.language looking.script (committed five) none_pending answers_until_leaf (committed left_out) pending_at_leaf
+  pub told : AreTold looking left_out pending_at_leaf
   pub goes_on : MayFollow looking 1 1 left_out to_commit
   pub answered : texts_in answers_left_out ≡ codes "OK" ∷ codes "OK 1 rows" ∷ codes "OK 1 rows (1,POINT(0 0))" ∷ codes "OK" ∷ []
   pub not_serial : serial_from looking.language looking.script (committed five) none_pending answers_left_out ≡ None
