@@ -33,7 +33,7 @@ use Rattle.isp_order.specs.Trees.{HasEntries, IsKeyed, IsStored, StandsAt, versi
 use Rattle.isp_order.specs.InOrder.{InOrder, IsProper, IsRested, is_missing}
 use Rattle.isp_order.proofs.RestedLaws.{in_order}
 use Rattle.isp_order_whole.proofs.WholeLaws.{stays_in_order}
-use Rattle.isp_answers.specs.Told.{AreBegun, RestsOn}
+use Rattle.isp_answers.specs.Told.{AreBegun, IsTold, RestsAt, RestsOn, Stand}
 use Rattle.isp_event_examples.proofs.LanguageLaws.{language_fits}
 use Rattle.isp_serial_examples.proofs.FreshLaws.{apart, apart_back, nobody, none_some, rest_fresh, sees_committed, some_is}
 use Rattle.isp_serial_examples.specs.NeededClauses.{texts_in}
@@ -282,9 +282,9 @@ unlocked_in_order o = record {
     nothing_left s h = record { no_lock = λ lock l. h.no_lock lock (among lock l); no_search = h.no_search; no_undo = h.no_undo; no_note = h.no_note; no_key = h.no_key }
 
 -- an intention is no lock of a key
-fails : RestsOn growing unlocked 1 2 0 (notes_of long) lengthening → ⊥
-fails (inl t) = false≢true (sym (ap (λ (locks : List Lock). takes locks 1 t.key 1) locks_are) ∙ t.taken)
-fails (inr h) = false≢true (sym (ap (λ (locks : List Lock). holds locks (lock_on 1 1 (Some (pos 1)) X)) locks_are) ∙ h)
+rests_not : RestsOn growing unlocked 1 2 0 (notes_of long) lengthening → ⊥
+rests_not (inl t) = false≢true (sym (ap (λ (locks : List Lock). takes locks 1 t.key 1) locks_are) ∙ t.taken)
+rests_not (inr h) = false≢true (sym (ap (λ (locks : List Lock). holds locks (lock_on 1 1 (Some (pos 1)) X)) locks_are) ∙ h)
 
 -- ---- what was told stands by the weaker clause
 
@@ -295,6 +295,26 @@ first = refl
 tell : answers_in (lines_of_all growing one_long until_refused) ≡ answers_refused
 unfolding next digits ok_text full_text end_text deadlock_text state words
 tell = refl
+
+-- so nothing that the refused answer could rest on is left
+not_at : (place : ℕ) (table : Table) → slice_get (notes_of long ∷ []) place ≡ Some table → RestsOn growing unlocked 1 2 place table lengthening → ⊥
+not_at zero table there r = rests_not (subst (λ (t : Table). RestsOn growing unlocked 1 2 0 t lengthening) (sym (some_is (notes_of long) table there)) r)
+not_at (suc place) table there r = none_some table there
+
+refusal_rests_not : RestsAt growing unlocked 1 true (notes_of long ∷ []) refused_answer → ⊥
+unfolding digits full_text end_text deadlock_text state words
+refusal_rests_not h = not_at h.place h.table h.there h.rests
+
+begins_only : (mid : List Table) → Agrees growing.language growing.script false (notes_of long ∷ []) begun_answer mid → mid ≡ notes_of long ∷ []
+unfolding digits ok_text full_text end_text deadlock_text state words
+begins_only mid h = h.1
+
+stands_not : (left : List Table) → Stand growing unlocked 1 false (notes_of long ∷ []) answers_refused left → ⊥
+unfolding ok_text
+stands_not left s = refusal_rests_not (subst (λ (tables : List Table). RestsAt growing unlocked 1 true tables refused_answer) (begins_only s.0 s.1) s.3.2)
+
+fails : IsTold growing unlocked 1 answers_refused → ⊥
+fails h = stands_not h.left (subst (λ (tables : List Table). Stand growing unlocked 1 false tables answers_refused h.left) first h.stand)
 
 session_is : (s : ℕ) (session : SessionState) → session_at sessions_then s ≡ session → session_at unlocked.sessions s ≡ session
 session_is s session is = ap (λ (sessions : List SessionState). session_at sessions s) sessions_are ∙ is

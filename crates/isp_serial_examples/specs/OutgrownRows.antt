@@ -27,7 +27,7 @@ use Rattle.isp_events.specs.Events.{Event, MayFollow, after_all, lines_of_all}
 use Rattle.isp_event_laws.specs.SerialAfter.{becoming, replayed, serial_from}
 use Rattle.isp_order.specs.InOrder.{InOrder}
 use Rattle.isp_answers.specs.Course.{AreOnCourse}
-use Rattle.isp_answers.specs.Told.{AreBegun, IsReadBy, Rests, RestsOn, gives_up}
+use Rattle.isp_answers.specs.Told.{AreBegun, IsReadBy, IsTold, Rests, gives_up}
 use Rattle.isp_event_examples.specs.Language.{with_key}
 use Rattle.isp_event_examples.specs.Points.{machine_of, nothing}
 use Rattle.isp_event_examples.specs.WrongRuns.{texts}
@@ -184,7 +184,7 @@ pub record RestsIsNeeded : Type 0 where
   pub on_course : AreOnCourse unlocked
   pub ended : EndsAll growing.language growing.script (committed one_long) none_pending answers_refused (committed unlocked) pending_refused
   pub weaker : (s : ℕ) → IsToldUnlocked growing unlocked s (pending_refused s)
-  pub fails : RestsOn growing unlocked 1 2 0 (notes_of long) lengthening → ⊥
+  pub fails : IsTold growing unlocked 1 answers_refused → ⊥
   pub goes_on : MayFollow growing 1 1 unlocked until_committed
   pub first : committed unlocked ≡ notes_of long ∷ []
   pub agrees : replayed growing.language growing.script false (notes_of long ∷ []) answers_refused ≡ Some (notes_of long ∷ [])
