@@ -138,4 +138,5 @@ def main():
     table("the same with a bad last byte", bad_texts, (1, 2, 4, 8, 15, 30, 60), rounds)
 
 
-main()
+if __name__ == "__main__":
+    main()
