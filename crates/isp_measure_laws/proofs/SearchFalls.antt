@@ -21,6 +21,7 @@ use Rattle.isp_order_work.proofs.WorkParts.{none_some, some_is}
 use Rattle.isp_replies.proofs.ReasonLaws.{empty_of_last}
 use Rattle.isp_measure.specs.Measure.{number_or, seen_before, seen_from, total}
 use Rattle.isp_measure.proofs.SumLaws.{total_less}
+use Rattle.isp_measure_laws.specs.Visits.{ComesOn, VisitComesOn}
 
 pub last_push : {X : Type 0} (o : Option X) (xs : List X) (x : X) → last_or o (xs ++ x ∷ []) ≡ Some x
 last_push o [] x = refl
@@ -162,13 +163,6 @@ closer tree on p page there new =
 
 -- ---- a visit
 
--- it comes to a page that is new to the search; or the search remembers fewer pages; or as many, and has fewer to come to again
-abbrev pub ComesOn : Tree → Search → Search → Type 0
-ComesOn tree x y =
-    (away tree y < away tree x)
-    ⊎ (away tree y ≡ away tree x) × ((length y.stack < length x.stack)
-    ⊎ (length y.stack ≡ length x.stack) × (seen_from tree y.on (last_or None y.stack) < seen_from tree x.on (last_or None x.stack)))
-
 module _ (tree : Tree) (f : Forest tree) (x : Search) (c : Covered tree x) (p s : ℕ) (top : last_or None x.stack ≡ Some (p, s)) where
   stack_is : x.stack ≡ front x.stack ++ (p, s) ∷ []
   stack_is = top_of x.stack (p, s) top
@@ -215,7 +209,7 @@ module _ (tree : Tree) (f : Forest tree) (x : Search) (c : Covered tree x) (p s 
   comes_on =
       subst (λ (o : Option Node). ComesOn tree x (visited_at tree p s o (record x { stack = front x.stack }))) (sym is.there) (at_page (is_among x.on p) refl)
 
-pub visit_comes_on : (tree : Tree) (x : Search) → Forest tree → Covered tree x → (x.stack ≡ [] → ⊥) → ComesOn tree x (visited tree x)
+pub visit_comes_on : VisitComesOn
 visit_comes_on tree x f c some = by_top (last_or None x.stack) refl
   where
     by_top : (top : Option (ℕ × ℕ)) → last_or None x.stack ≡ top → ComesOn tree x (visit_top tree x top)

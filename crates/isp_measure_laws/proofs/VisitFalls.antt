@@ -29,7 +29,8 @@ use Rattle.isp_measure.proofs.ListFacts.{has_filter_of}
 use Rattle.isp_measure.proofs.OrderLaws.{Falls, here, later}
 use Rattle.isp_measure.proofs.SumLaws.{equal, same, total_less, total_no_more, total_of_map}
 use Rattle.isp_measure_laws.proofs.SessionParts.{HasLess, SameBegun, answers_sum, columns_of, has_less, leaves_at, leaves_sum, moved, not_giving_up, onward_still, onward_sum, path_at, path_sum, phases_at, phases_sum, steps_at, steps_sum}
-use Rattle.isp_measure_laws.proofs.SearchFalls.{ComesOn, visit_comes_on}
+use Rattle.isp_measure_laws.specs.Visits.{ComesOn}
+use Rattle.isp_measure_laws.proofs.SearchFalls.{visit_comes_on}
 use Rattle.isp_measure_laws.proofs.WorkFalls.{with_low}
 
 -- ---- searches by their session and statement

@@ -1,1 +1,2 @@
 pub mod Lowers
+pub mod Visits

@@ -2,5 +2,7 @@
 #![tactic(auto)]
 
 mod measure;
+mod visit;
 
 pub use measure::law_each_event_lowers;
+pub use visit::law_visit_comes_on;
