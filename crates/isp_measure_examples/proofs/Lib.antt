@@ -1,0 +1,2 @@
+pub mod FallingLaws
+pub mod UndoLaws
