@@ -1,5 +1,5 @@
 -- Both statements with undo entries counted, by computation.
-use Rattle.std.proofs.Common.{◌≡◌, inl, inr, refl, true, List, [], ◌∷◌, arith}
+use Rattle.std.proofs.Common.{inl, inr, refl, [], ◌∷◌, arith}
 use Rattle.isp_waits.specs.Levels.{reaches, walk}
 use Rattle.isp_geom.specs.Bounds.{points_of}
 use Rattle.isp_geom.specs.Spelling.{spelling}

@@ -9,7 +9,7 @@ use Rattle.isp_events.specs.Stored.{StoredTable, indexed, table_at}
 use Rattle.isp_events.specs.Sessions.{Change, Phase, writing, SessionState, Work, begun_change}
 use Rattle.isp_events.specs.State.{State, session_numbers}
 use Rattle.isp_events.specs.Ways.{Machine}
-use Rattle.isp_events.specs.Events.{acts, with_child, with_divisions, Choice, Event, MayFollow, MayHappen, after, after_all}
+use Rattle.isp_events.specs.Events.{acts, Event, MayFollow, MayHappen, after, after_all}
 use Rattle.isp_measure.specs.Order.{IsLower}
 use Rattle.isp_measure.specs.Measure.{answers_left, gives_up, leaves_left, one_if_awake, one_if_onward, pages_again, pages_away, pages_of_path, pages_remembered, phases_left, steps_of_change, steps_of_phase, total, total_of_sessions}
 use Rattle.isp_event_examples.specs.Language.{meeting, point_at}
