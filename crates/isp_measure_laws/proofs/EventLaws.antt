@@ -1,5 +1,5 @@
 -- Each event lowers the measure: the events by their kinds and choices.
-use Rattle.std.proofs.Common.{◌≡◌, ◌⊎◌, ◌∙◌, inl, inr, refl, sym, ap, subst, ℕ, ℤ, ◌<◌, ◌≤◌, ◌==◌, ◌||◌, Bool, true, false, Option, Some, None, List, [], ◌∷◌, arith, length, drop, eqb-true}
+use Rattle.std.proofs.Common.{◌≡◌, ◌⊎◌, ◌∙◌, inl, inr, refl, sym, ap, ℕ, ℤ, ◌<◌, ◌==◌, ◌||◌, Bool, true, false, Option, Some, None, List, [], ◌∷◌, arith, length, drop, eqb-true}
 use Rattle.std.specs.Prelude.{slice_set}
 use Rattle.std.proofs.lemmas.Bool.{false≢true}
 use Rattle.std.proofs.lemmas.List.{length-map}
@@ -8,7 +8,6 @@ use Rattle.isp_reclock.specs.declared.modes.Mode.{Mode}
 use Rattle.isp_plain.specs.declared.statement.Reply.{Reply}
 use Rattle.isp_plain.specs.declared.statement.Reply.TheVariants as says
 use Rattle.isp_plain.specs.declared.statement.Statement.{Statement}
-use Rattle.isp_plain.specs.declared.value.Schema.{Schema}
 use Rattle.isp_events.specs.Sessions.{SessionState, Work, session_at}
 use Rattle.isp_events.specs.State.{Queued, State, is_empty}
 use Rattle.isp_events.specs.Ways.{Machine}
@@ -17,9 +16,9 @@ use Rattle.isp_events.specs.Next.{EventKind, answers, undoes, creates, asks_tabl
 use Rattle.isp_events.specs.Placing.{in_the_way, sessions_on}
 use Rattle.isp_events.specs.Ending.{is_over_after, session_after_answer, session_after_end}
 use Rattle.isp_events.specs.Purging.{after_purge}
-use Rattle.isp_events.specs.Events.{Actor, acts, purges, flushes, lists_locks, Choice, with_nothing, with_blockers, with_deadlocks, with_child, with_divisions, with_put, with_undo_pages, with_roots, with_flushed, MayChoose, MayGoOn, MayHappen, after, after_kind, after_next, after_reply, blockers_of, full_reply}
+use Rattle.isp_events.specs.Events.{Actor, acts, purges, flushes, lists_locks, Choice, with_nothing, with_blockers, with_deadlocks, with_child, with_divisions, with_put, with_undo_pages, with_roots, MayChoose, MayGoOn, MayHappen, after, after_kind, after_next, after_reply, blockers_of, full_reply}
 use Rattle.isp_order.specs.InOrder.{InOrder, IsProper}
-use Rattle.isp_causes.specs.Causes.{GoesOn, IsActive, IsAtFirst, IsCaused, IsCreating, IsLockingKey, IsLockingRow, IsLockingTable}
+use Rattle.isp_causes.specs.Causes.{GoesOn, IsActive, IsAtFirst, IsCaused, IsLockingKey, IsLockingRow}
 use Rattle.isp_causes.proofs.CauseLaws.{is_caused}
 use Rattle.isp_replies.specs.Replies.{Replies, RepliesEnd}
 use Rattle.isp_replies.proofs.ReasonLaws.{has_reason}

@@ -1,10 +1,9 @@
 -- A path that goes down has less before it, and so has one that is emptied because it doesn't stand.
-use Rattle.std.proofs.Common.{◌≡◌, ◌⊎◌, ◌∙◌, inl, inr, refl, sym, ap, subst, ℕ, suc, ◌+◌, ◌≤◌, ◌<◌, ◌==◌, ◌&&◌, ◌||◌, not, cond, Bool, true, false, Option, Some, None, List, [], ◌∷◌, ◌++◌, arith, length, eqb-true, eq-eqb}
+use Rattle.std.proofs.Common.{◌≡◌, ◌∙◌, refl, sym, ap, subst, ℕ, suc, ◌+◌, ◌<◌, ◌==◌, ◌&&◌, ◌||◌, not, cond, Bool, true, false, Option, Some, None, List, [], ◌∷◌, ◌++◌, arith, length, eqb-true}
 use Rattle.std.specs.Prelude.{slice_set}
-use Rattle.std.specs.List.{last_or, list_any}
+use Rattle.std.specs.List.{last_or}
 use Rattle.std.specs.Option.{option_map}
-use Rattle.std.proofs.lemmas.Bool.{false≢true, and_parts}
-use Rattle.isp_base.specs.Lists.{Has}
+use Rattle.std.proofs.lemmas.Bool.{false≢true}
 use Rattle.isp_laws.proofs.ForestLaws.{child_there, same_page}
 use Rattle.isp_laws.proofs.PageLaws.{There}
 use Rattle.isp_forest.specs.declared.entry.Entry.{Entry}
@@ -12,22 +11,22 @@ use Rattle.isp_forest.specs.Tree.{Node, Tree, child_of, page_at}
 use Rattle.isp_forest.specs.Forest.{Forest, IsBelow}
 use Rattle.isp_forest.specs.Steps.{names}
 use Rattle.isp_forest.specs.Place.{Names}
-use Rattle.isp_events.specs.Stored.{StoredTable, table_at, tree_of}
-use Rattle.isp_events.specs.Sessions.{Entering, Phase, SessionState, Work, entering, session_at, writing}
+use Rattle.isp_events.specs.Stored.{table_at, tree_of}
+use Rattle.isp_events.specs.Sessions.{Entering, SessionState, Work, entering, session_at, writing}
 use Rattle.isp_events.specs.State.{State, is_empty}
 use Rattle.isp_events.specs.Ways.{Machine}
 use Rattle.isp_events.specs.Next.{Descent, has_entry_for, is_leaf, leads_to_leaf, path_stands, starts_at}
 use Rattle.isp_events.specs.Asking.{change_work}
 use Rattle.isp_events.specs.Placing.{after_stale, after_step, change_entering, follows, may_step, phase_with_entry, stepped, tree_for, without_path}
-use Rattle.isp_order.specs.Work.{IsDescent, IsInner, IsOnPath, IsPathIn, IsPathOf}
+use Rattle.isp_order.specs.Work.{IsInner, IsOnPath, IsPathIn, IsPathOf}
 use Rattle.isp_order.specs.InOrder.{InOrder, IsProper}
-use Rattle.isp_causes.specs.Causes.{GoesOn, IsActive, IsDescending, IsEntering, IsStale, IsStepping}
+use Rattle.isp_causes.specs.Causes.{GoesOn, IsActive, IsEntering, IsStale, IsStepping}
 use Rattle.isp_event_laws.proofs.ListTests.{Passing, any_has}
 use Rattle.isp_order_paths.proofs.PathLaws.{next_listed}
 use Rattle.isp_order_work.proofs.WorkParts.{none_some, some_is}
-use Rattle.isp_measure.specs.Measure.{down_of_columns, down_of_phase, gives_up, leads_down, leaves_left, leaves_of_phase, level_of, level_of_last, measure, one_if_onward, pages_down, pages_of_path, phases_behind, phases_left, stands_so_far, steps_left, steps_of_phase, whole_descent}
+use Rattle.isp_measure.specs.Measure.{down_of_columns, down_of_phase, leads_down, leaves_left, leaves_of_phase, level_of, level_of_last, measure, pages_down, pages_of_path, phases_behind, phases_left, stands_so_far, steps_left, steps_of_phase, whole_descent}
 use Rattle.isp_measure.proofs.OrderLaws.{Falls, here, later}
-use Rattle.isp_measure.proofs.SumLaws.{equal, same}
+use Rattle.isp_measure.proofs.SumLaws.{same}
 use Rattle.isp_measure_laws.proofs.SearchFalls.{last_push}
 use Rattle.isp_measure_laws.proofs.SessionParts.{answers_sum, columns_of, leaves_at, leaves_sum, not_giving_up, onward_still, onward_sum, path_at, path_less, phases_at, phases_sum, steps_at, steps_sum}
 

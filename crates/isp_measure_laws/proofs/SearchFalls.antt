@@ -1,10 +1,10 @@
 -- A visit comes to a page that is new to the search; or it comes to none, and the search remembers fewer pages, or as many and has one page less
 -- to come to again. It asks for no links that end, as the walks of the pages that a search remembers do.
-use Rattle.std.proofs.Common.{◌≡◌, ◌⊎◌, ◌∙◌, inl, inr, refl, sym, ap, subst, ℕ, zero, suc, ◌+◌, ◌≤◌, ◌<◌, ◌==◌, ◌||◌, not, cond, Bool, true, false, Option, Some, None, List, [], ◌∷◌, ◌++◌, arith, length, length-append, eqb-true}
+use Rattle.std.proofs.Common.{◌≡◌, ◌∙◌, inl, inr, refl, sym, ap, subst, ℕ, zero, suc, ◌+◌, ◌≤◌, ◌<◌, ◌==◌, not, cond, Bool, true, false, Option, Some, None, List, [], ◌∷◌, ◌++◌, arith, length, length-append, eqb-true}
 use Rattle.std.specs.Prelude.{filter, nat_lt}
-use Rattle.std.specs.List.{last_or, list_any}
+use Rattle.std.specs.List.{last_or}
 use Rattle.isp_base.specs.Lists.{Has, times}
-use Rattle.isp_laws.proofs.ListLaws.{Has-append_left, Has-append_right, Has-times, no_longer, times-Has}
+use Rattle.isp_laws.proofs.ListLaws.{Has-append_left, Has-append_right, Has-times, no_longer}
 use Rattle.isp_laws.proofs.PageLaws.{There, times_there}
 use Rattle.isp_forest.specs.Tree.{Node, Tree, counter, numbers, page_at}
 use Rattle.isp_forest.specs.Forest.{Forest, IsLinked}
@@ -12,9 +12,8 @@ use Rattle.isp_forest.specs.Walk.{IsWalk, split_since}
 use Rattle.isp_forest.specs.Steps.{is_among}
 use Rattle.isp_forest.specs.Search.{Covered, IsRemembered, Search}
 use Rattle.isp_forest.specs.Visit.{looked_at, remembered, visited_at}
-use Rattle.isp_searches.specs.SearchLaws.{away}
-use Rattle.isp_searches.proofs.SeesLaws.{among_has, has_among, not_both}
-use Rattle.isp_events.specs.Reading.{visit_top, visited}
+use Rattle.isp_searches.proofs.SeesLaws.{among_has, has_among}
+use Rattle.isp_events.specs.Reading.{visit_top}
 use Rattle.isp_events.specs.State.{front}
 use Rattle.isp_order_trees.proofs.CoveredLaws.{top_of}
 use Rattle.isp_order_work.proofs.WorkParts.{none_some, some_is}

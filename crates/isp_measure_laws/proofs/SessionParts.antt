@@ -1,5 +1,5 @@
 -- What the measure counts of one session, where it is at work, and where it alone changes.
-use Rattle.std.proofs.Common.{◌≡◌, ◌⊎◌, ◌∙◌, inl, inr, refl, sym, ap, ℕ, ◌+◌, ◌≤◌, ◌<◌, ◌==◌, ◌||◌, cond, Bool, true, false, Option, Some, None, List, [], ◌∷◌, arith, length}
+use Rattle.std.proofs.Common.{◌≡◌, ◌⊎◌, ◌∙◌, inl, inr, refl, ap, ℕ, ◌≤◌, ◌<◌, ◌==◌, ◌||◌, cond, Bool, true, false, Option, Some, None, List, arith, length}
 use Rattle.std.specs.Prelude.{is_some, slice_set}
 use Rattle.std.specs.List.{list_any}
 use Rattle.isp_events.specs.Stored.{StoredTable, indexed, table_at}

@@ -1,5 +1,5 @@
 -- A visit begins its search, ends it, or comes on.
-use Rattle.std.proofs.Common.{◌≡◌, ◌⊎◌, ◌∙◌, inl, inr, refl, sym, ap, subst, ℕ, ℤ, ◌+◌, ◌≤◌, ◌<◌, ◌==◌, ◌&&◌, ◌||◌, not, cond, Bool, true, false, Option, Some, None, List, [], ◌∷◌, ◌++◌, arith, length, map, eqb-true, eq-eqb}
+use Rattle.std.proofs.Common.{◌≡◌, ◌⊎◌, ◌∙◌, inl, inr, refl, sym, ap, subst, ℕ, ℤ, ◌+◌, ◌≤◌, ◌<◌, ◌==◌, ◌&&◌, ◌||◌, cond, Bool, true, false, Option, Some, None, List, [], ◌∷◌, ◌++◌, arith, length, map, eqb-true, eq-eqb}
 use Rattle.std.specs.Prelude.{filter, find, slice_set}
 use Rattle.std.specs.List.{last_or, list_any}
 use Rattle.std.specs.Option.{option_map}
@@ -11,13 +11,12 @@ use Rattle.isp_plain.specs.declared.statement.Statement.{Statement}
 use Rattle.isp_forest.specs.Tree.{Tree}
 use Rattle.isp_forest.specs.Search.{Search}
 use Rattle.isp_forest.specs.Visit.{begun}
-use Rattle.isp_searches.specs.SearchLaws.{away}
 use Rattle.isp_events.specs.Stored.{StoredTable, indexed, table_at, tree_of}
-use Rattle.isp_events.specs.Sessions.{Phase, SessionState, Work, changes_of, phase_with, session_at, visiting}
-use Rattle.isp_events.specs.State.{State, TreeSearch, is_empty, session_numbers}
+use Rattle.isp_events.specs.Sessions.{SessionState, Work, changes_of, phase_with, session_at, visiting}
+use Rattle.isp_events.specs.State.{State, TreeSearch, is_empty}
 use Rattle.isp_events.specs.Ways.{Machine}
 use Rattle.isp_events.specs.Asking.{change_work, phase_of_keys}
-use Rattle.isp_events.specs.Reading.{after_visit, is_of, phase_after_visit, rising, search_before, search_or, visited, with_search, work_after_visit}
+use Rattle.isp_events.specs.Reading.{after_visit, is_of, phase_after_visit, rising, search_or, visited, with_search, work_after_visit}
 use Rattle.isp_order.specs.Searches.{Belongs, IsOfWork, is_visiting}
 use Rattle.isp_order.specs.InOrder.{InOrder}
 use Rattle.isp_causes.specs.Causes.{GoesOn, IsActive, IsVisiting}

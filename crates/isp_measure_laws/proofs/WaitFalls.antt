@@ -1,11 +1,10 @@
 -- Who is refused waits, or a session becomes a victim.
-use Rattle.std.proofs.Common.{◌≡◌, ◌⊎◌, ◌∙◌, inl, inr, refl, sym, ap, subst, ℕ, ◌+◌, ◌≤◌, ◌<◌, ◌==◌, ◌||◌, not, cond, Bool, true, false, Option, Some, None, List, [], ◌∷◌, arith, length, eqb-true}
+use Rattle.std.proofs.Common.{◌≡◌, ◌⊎◌, ◌∙◌, inl, inr, refl, sym, ap, subst, ℕ, ◌≤◌, ◌<◌, ◌==◌, ◌||◌, not, cond, Bool, true, false, Option, Some, None, List, [], ◌∷◌, arith, length, eqb-true}
 use Rattle.std.specs.Prelude.{IsTrue, is_some, slice_set}
 use Rattle.std.specs.Option.{option_and_then}
 use Rattle.std.proofs.lemmas.Bool.{false≢true}
 use Rattle.std.proofs.lemmas.List.{get_or-set_same}
-use Rattle.isp_base.specs.Lists.{Has}
-use Rattle.isp_waits.specs.Graphs.{WaitsFor, has, waits_of}
+use Rattle.isp_waits.specs.Graphs.{WaitsFor, has}
 use Rattle.isp_serial.specs.Script.{text_at}
 use Rattle.isp_events.specs.Stored.{StoredTable}
 use Rattle.isp_events.specs.Sessions.{Failure, SessionState, Work, session_at}

@@ -1,5 +1,5 @@
 -- Each event of a session and each purge brings the machine nearer to its end.
-use Rattle.std.specs.Prelude.{◌≡◌, ℕ, Bool, true, false}
+use Rattle.std.specs.Prelude.{◌≡◌, Bool, true, false}
 use Rattle.isp_events.specs.State.{State}
 use Rattle.isp_events.specs.Ways.{Machine}
 use Rattle.isp_events.specs.Events.{Actor, acts, purges, flushes, lists_locks, Choice, MayHappen, after}

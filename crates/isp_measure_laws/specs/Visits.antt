@@ -1,5 +1,5 @@
 -- What a visit brings a search nearer to.
-use Rattle.std.specs.Prelude.{◌≡◌, ◌⊎◌, ◌<◌, List, [], length, None}
+use Rattle.std.specs.Prelude.{◌≡◌, ◌⊎◌, ◌<◌, [], length, None}
 use Rattle.std.specs.List.{last_or}
 use Rattle.isp_forest.specs.Tree.{Tree}
 use Rattle.isp_forest.specs.Forest.{Forest}
