@@ -20,8 +20,8 @@ use Rattle.isp_image.proofs.FileLaws.{Regrown, def_of, with_table}
 use Rattle.isp_image.proofs.ListLaws.{all_of, each_set, length_set, map_set_same, not_among}
 use Rattle.isp_image.proofs.OwnerLaws.{after_takes, apart, given, has_owner, not_owned, tables_differ, takes_grow, takes_shared, takes_stay}
 use Rattle.isp_undo.specs.Chains.{Chain, IsUndoChain, ends_of, pages_of}
-use Rattle.isp_undo.proofs.LinkLaws.{linked_same, pages_all}
-use Rattle.isp_undo.proofs.PageLaws.{both_out}
+use Rattle.isp_undo_walks.proofs.LinkLaws.{linked_same, pages_all}
+use Rattle.isp_undo_walks.proofs.PageLaws.{both_out}
 use Rattle.isp_chained.specs.Chained.{Holds, is_held}
 use Rattle.isp_chained.specs.Laws.{with_space}
 use Rattle.isp_chained.proofs.OwnerLaws.{slot_table, slots_stay}

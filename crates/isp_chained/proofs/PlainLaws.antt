@@ -4,13 +4,13 @@ use Rattle.std.specs.Prelude.{nat_lt, replicate, reverse, slice_get}
 use Rattle.std.proofs.lemmas.Bool.Decides.{nat_tests}
 use Rattle.isp_format.specs.Ranges.{Contents, page_of}
 use Rattle.isp_format.specs.Undo.{IsUndoDirectory, OldImage, Slot as Ends}
-use Rattle.isp_image.specs.Databases.{FileImage}
+use Rattle.isp_image.specs.Databases.{FileImage, put_back, tables_of}
 use Rattle.isp_image.specs.Files.{Owner, is_known, is_owner, no_slots, nobody, of_free, of_slot, of_table}
 use Rattle.isp_image.proofs.ListLaws.{counted}
 use Rattle.isp_base.specs.Lists.{times}
 use Rattle.isp_undo.specs.Chains.{Chain, IsUndoChain, ends_of, pages_of}
 use Rattle.isp_chained.specs.Chained.{images_in, is_held, no_chains}
-use Rattle.isp_chained.specs.Laws.{ChainedIsPlain, PlainIsChained}
+use Rattle.isp_chained.specs.Laws.{ChainedIsPlain, PlainIsChained, PlainStands}
 
 slots_are : map ends_of no_chains ≡ no_slots
 unfolding no_chains no_slots
@@ -103,3 +103,10 @@ chained_plain pages contents db is = record {
     by : (slot page : ℕ) (b : Bool) → nat_lt slot 32 ≡ b → is_owner (of_slot slot) (is.holds.owner page) ≡ false
     by slot page true less = none_counted (is_owner (of_slot slot) (is.holds.owner page)) (is.holds.stacks slot [] (slot_there slot (grind (arith, nat_tests, less))) page)
     by slot page false far = far_slot slot (length db.tables) (is.holds.owner page) (grind (arith, nat_tests, far)) (is.holds.held page)
+
+pub plain_stands : PlainStands
+plain_stands pages contents db is = record {
+  db = db;
+  kept = plain_chained pages contents db is;
+  stand = ap (λ (images : List FileImage). put_back images (tables_of db)) is.none;
+}

@@ -17,8 +17,8 @@ use Rattle.isp_image.proofs.ListLaws.{all_of, counted, map_set, page_itself}
 use Rattle.isp_image.proofs.OwnerLaws.{given, has_owner}
 use Rattle.isp_undo.specs.Calls.{HasStack, Restacks, page_taken, space_after}
 use Rattle.isp_undo.specs.Chains.{Chain, ends_of, gone, pages_of, popped, pushed, takes_page}
-use Rattle.isp_undo.proofs.LinkLaws.{pages_all}
-use Rattle.isp_undo.proofs.PageLaws.{both_out, other_page}
+use Rattle.isp_undo_walks.proofs.LinkLaws.{pages_all}
+use Rattle.isp_undo_walks.proofs.PageLaws.{both_out, other_page}
 use Rattle.isp_undo.proofs.PushLaws.{from_of}
 use Rattle.isp_undo.proofs.StackLaws.{popped_pages, pushed_pages}
 use Rattle.isp_chained.specs.Chained.{Holds, is_held}

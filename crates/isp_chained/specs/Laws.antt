@@ -12,7 +12,7 @@ use Rattle.isp_image.specs.Databases.{Database, FileImage, FileRow, committed, t
 use Rattle.isp_image.specs.Files.{KeptFile, is_owner, of_slot}
 use Rattle.isp_undo.specs.Calls.{HasStack, Restacks, page_taken, space_after}
 use Rattle.isp_undo.specs.Chains.{Chain, ends_of, gone, images_of, pages_of, popped, pushed, without_last}
-use Rattle.isp_chained.specs.Chained.{ChainedFile, Holds, images_in, is_held, no_chains}
+use Rattle.isp_chained.specs.Chained.{ChainedFile, Holds, StandsChained, images_in, is_held, no_chains}
 use Rattle.isp_chained.specs.Steps.{AreDisjoint, FinishesAmong, IsFreeIn, NotesAmong, UndoesAmong}
 
 -- ---- steps of databases
@@ -117,3 +117,7 @@ PlainIsChained = (pages : ℕ) (contents : Contents) (db : Database) → IsPlain
 
 abbrev pub ChainedIsPlain : Type 0
 ChainedIsPlain = (pages : ℕ) (contents : Contents) (db : Database) → ChainedFile pages contents db no_chains → IsPlainFile pages contents db
+
+-- and it stands for the tables of now
+abbrev pub PlainStands : Type 0
+PlainStands = (pages : ℕ) (contents : Contents) (db : Database) → IsPlainFile pages contents db → StandsChained pages contents no_chains (tables_of db)

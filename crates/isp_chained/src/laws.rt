@@ -1,5 +1,5 @@
 //! What the steps of a database with chains leave of its tables, and the calls on chains of its pages.
-ghost use Rattle.isp_chained.specs.Laws.{ChainedIsPlain, FinishingCommits, FinishingHolds, FinishingKeepsDisjoint, NotingKeeps, PlainIsChained, PoppingHolds, PoppingKeepsDisjoint, PushingHolds, PushingKeepsDisjoint, PushingNotes, SlotsHaveStacks, SlotsStandInOrder, UndoingKeeps};
+ghost use Rattle.isp_chained.specs.Laws.{ChainedIsPlain, FinishingCommits, FinishingHolds, FinishingKeepsDisjoint, NotingKeeps, PlainIsChained, PlainStands, PoppingHolds, PoppingKeepsDisjoint, PushingHolds, PushingKeepsDisjoint, PushingNotes, SlotsHaveStacks, SlotsStandInOrder, UndoingKeeps};
 
 /// A row that is written, with what stood there noted in a slot, leaves the committed tables.
 pub fn law_noting_keeps()
@@ -69,4 +69,9 @@ pub fn law_plain_is_chained()
 /// A file with chains that has none is a kept file without old rows.
 pub fn law_chained_is_plain()
     ensures { ChainedIsPlain }
+{}
+
+/// A kept file without old rows stands for its tables of now.
+pub fn law_plain_stands()
+    ensures { PlainStands }
 {}

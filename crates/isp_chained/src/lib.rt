@@ -10,7 +10,7 @@ mod laws;
 
 pub use laws::{
     law_chained_is_plain, law_finishing_commits, law_finishing_holds, law_finishing_keeps_disjoint,
-    law_noting_keeps, law_plain_is_chained, law_popping_holds, law_popping_keeps_disjoint,
-    law_pushing_holds, law_pushing_keeps_disjoint, law_pushing_notes, law_slots_have_stacks,
-    law_slots_stand_in_order, law_undoing_keeps,
+    law_noting_keeps, law_plain_is_chained, law_plain_stands, law_popping_holds,
+    law_popping_keeps_disjoint, law_pushing_holds, law_pushing_keeps_disjoint, law_pushing_notes,
+    law_slots_have_stacks, law_slots_stand_in_order, law_undoing_keeps,
 };

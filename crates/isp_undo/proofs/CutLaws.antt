@@ -11,9 +11,10 @@ use Rattle.isp_page.specs.Touched.{AreAmong, KeepsPages, is_page}
 use Rattle.isp_space.specs.Giving.{AreLinked, IsGiven, last_of, with_chain}
 use Rattle.isp_space.specs.Spaces.{IsSpace, Space, first_of}
 use Rattle.isp_undo.specs.Calls.{HasStack, Restacks}
-use Rattle.isp_undo.specs.Chains.{Chain, IsApart, IsLinked, UndoPage, ends_of, first_page, last_page, pages_of, undo_page}
-use Rattle.isp_undo.proofs.LinkLaws.{all_pages, all_rest, all_tail, first_front, last_behind, last_is, linked_rest, linked_same, pages_all, pages_both}
-use Rattle.isp_undo.proofs.PageLaws.{among_here, among_less, among_more, both_out, distinct_front, distinct_rest, front_out, keeps_on, keeps_within, low_among, other_page, rest_out, space_same}
+use Rattle.isp_undo_walks.specs.Chains.{Chain, IsLinked, UndoPage, ends_of, first_page, last_page, pages_of, undo_page}
+use Rattle.isp_undo.specs.Chains.{IsApart}
+use Rattle.isp_undo_walks.proofs.LinkLaws.{all_pages, all_rest, all_tail, first_front, last_behind, last_is, linked_rest, linked_same, pages_all, pages_both}
+use Rattle.isp_undo_walks.proofs.PageLaws.{among_here, among_less, among_more, both_out, distinct_front, distinct_rest, front_out, keeps_on, keeps_within, low_among, other_page, rest_out, space_same}
 use Rattle.isp_undo.proofs.PushLaws.{apart_same, ends_same, free_from, from_of, front_of, here_of, linked_anew, parts_of, rest_of, restacked, same_pages, same_slots}
 
 -- the pages of a chain, linked as the space takes them

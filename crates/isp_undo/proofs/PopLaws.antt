@@ -15,13 +15,15 @@ use Rattle.isp_undo_pages.specs.Directory.{ends_in}
 use Rattle.isp_undo_pages.specs.declared.directory.Slot.{Slot}
 use Rattle.isp_undo_pages.specs.declared.entries.Spot.{Spot}
 use Rattle.isp_undo.specs.Calls.{HasStack, Restacks}
-use Rattle.isp_undo.specs.Chains.{Chain, IsInFile, IsLinked, UndoPage, end_of, ends_of, first_page, gone, images_of, is_empty, last_page, newest_of, pages_of, popped, undo_page}
-use Rattle.isp_undo.specs.Walks.{AreEmpty, CanCut, IsBack, IsLastUsed, IsWay, MayPop, Stops}
-use Rattle.isp_undo.specs.declared.walking.Stop.{Stop}
-use Rattle.isp_undo.proofs.LinkLaws.{all_front, ending, last_is, linked_front, pages_both}
-use Rattle.isp_undo.proofs.PageLaws.{distinct_front}
+use Rattle.isp_undo_walks.specs.Chains.{Chain, IsInFile, IsLinked, UndoPage, end_of, ends_of, first_page, images_of, is_empty, last_page, pages_of, undo_page}
+use Rattle.isp_undo.specs.Chains.{gone, newest_of, popped}
+use Rattle.isp_undo_walks.specs.Walks.{AreEmpty, IsBack, IsLastUsed, IsWay, Stops}
+use Rattle.isp_undo.specs.Cutting.{CanCut, MayPop}
+use Rattle.isp_undo_walks.specs.declared.walking.Stop.{Stop}
+use Rattle.isp_undo_walks.proofs.LinkLaws.{all_front, ending, last_is, linked_front, pages_both}
+use Rattle.isp_undo_walks.proofs.PageLaws.{distinct_front}
 use Rattle.isp_undo.proofs.StackLaws.{empty_images, gone_at, newest_at, popped_goes, popped_stays}
-use Rattle.isp_undo.proofs.WalkLaws.{first_alone, middle, none_ends, some_ends}
+use Rattle.isp_undo_walks.proofs.WalkLaws.{first_alone, middle, none_ends, some_ends}
 
 -- ---- none
 

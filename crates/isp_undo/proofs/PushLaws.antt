@@ -10,9 +10,10 @@ use Rattle.isp_page.specs.Touched.{AreAmong, KeepsPages}
 use Rattle.isp_space.specs.Spaces.{IsSpace, Space, fresh_after, next_free, next_of, rest_of as rest_free, taken}
 use Rattle.isp_undo_pages.specs.Directory.{ends_at}
 use Rattle.isp_undo.specs.Calls.{CanPush, HasStack, Restacks, page_taken, space_after}
-use Rattle.isp_undo.specs.Chains.{Chain, IsApart, IsLinked, IsUndoChain, UndoPage, end_of, ends_of, first_page, last_page, one_image, pages_of, pushed, takes_page, with_image}
-use Rattle.isp_undo.proofs.LinkLaws.{all_pages, first_front, last_is, linked_both, linked_front, linked_rest, linked_same, pages_all, pages_both}
-use Rattle.isp_undo.proofs.PageLaws.{among_here, among_more, both_out, distinct_front, distinct_more, distinct_rest, front_out, keeps_on, keeps_within, low_among, other_page, rest_out, space_same}
+use Rattle.isp_undo_walks.specs.Chains.{Chain, IsLinked, IsUndoChain, UndoPage, end_of, ends_of, first_page, last_page, pages_of}
+use Rattle.isp_undo.specs.Chains.{IsApart, one_image, pushed, takes_page, with_image}
+use Rattle.isp_undo_walks.proofs.LinkLaws.{all_pages, first_front, last_is, linked_both, linked_front, linked_rest, linked_same, pages_all, pages_both}
+use Rattle.isp_undo_walks.proofs.PageLaws.{among_here, among_more, both_out, distinct_front, distinct_more, distinct_rest, front_out, keeps_on, keeps_within, low_among, other_page, rest_out, space_same}
 use Rattle.isp_undo.proofs.StackLaws.{pushed_behind, pushed_on, takes_last}
 
 -- every page of a chain is one that may be given away

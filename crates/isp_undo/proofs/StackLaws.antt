@@ -2,9 +2,10 @@
 use Rattle.std.proofs.Common.{◌≡◌, inl, inr, Bool, true, false, not, ℕ, zero, suc, List, [], ◌∷◌, ◌++◌, length, drop, Some, refl, sym, ◌∙◌, ap, arith, if◌then◌else◌}
 use Rattle.std.proofs.lemmas.List.{append-nil, append_assoc}
 use Rattle.isp_format.specs.Undo.{OldImage}
-use Rattle.isp_undo.specs.Chains.{Chain, UndoPage, filled, gone, has_room, images_of, is_empty, joined, newest_in, newest_of, one_image, pages_of, popped, pushed, takes_page, trimmed, with_image, without_last, without_newest}
-use Rattle.isp_undo.specs.Walks.{AreEmpty, Stops}
-use Rattle.isp_undo.proofs.LinkLaws.{pages_both}
+use Rattle.isp_undo_walks.specs.Chains.{Chain, UndoPage, images_of, is_empty, pages_of}
+use Rattle.isp_undo.specs.Chains.{filled, gone, has_room, joined, newest_in, newest_of, one_image, popped, pushed, takes_page, trimmed, with_image, without_last, without_newest}
+use Rattle.isp_undo_walks.specs.Walks.{AreEmpty, Stops}
+use Rattle.isp_undo_walks.proofs.LinkLaws.{pages_both}
 
 -- ---- one more
 

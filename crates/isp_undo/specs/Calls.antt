@@ -1,6 +1,5 @@
 -- What the calls on undo chains answer, and what they leave.
 use Rattle.std.specs.Prelude.{◌≡◌, ◌⊎◌, ℕ, ◌<◌, ◌≤◌, Bool, true, false, List, [], ◌∷◌, ◌++◌, length, Option, Some, None, Result, set, if◌then◌else◌, IfErr, OnOk, ⊤}
-use Rattle.isp_format.specs.Empty.{first_fresh}
 use Rattle.isp_format.specs.Ranges.{Contents}
 use Rattle.isp_format.specs.Undo.{OldImage, Slot as Ends}
 use Rattle.isp_page.specs.Calls.{Continues}
@@ -12,46 +11,15 @@ use Rattle.isp_page.specs.declared.pages.Pages.{Ghosts}
 use Rattle.isp_space.specs.Changes.{ChangesBy}
 use Rattle.isp_space.specs.Giving.{with_chain}
 use Rattle.isp_space.specs.Spaces.{IsSpace, NamesSpace, Space, free_pages, next_free, taken}
-use Rattle.isp_undo.specs.Chains.{Chain, HasChain, IsApart, ends_of, gone, images_of, pages_of, popped, pushed, takes_page}
+use Rattle.isp_undo_walks.specs.Chains.{Chain, HasChain, ends_of, images_of, pages_of}
+pub use Rattle.isp_undo_walks.specs.Slots.{HasChainIn, is_begun}
+use Rattle.isp_undo.specs.Chains.{IsApart, gone, popped, pushed, takes_page}
 use Rattle.isp_undo_pages.specs.Entries.{image_in}
 use Rattle.isp_undo_pages.specs.declared.buf.UndoBuf.{UndoBuf}
-use Rattle.isp_undo_pages.specs.declared.directory.Slot.{Slot}
-
--- the first and the last page of a chain, where there is one
-abbrev pub found_of : Chain → Option Ends
-found_of [] = None
-found_of (p ∷ rest) = Some (ends_of (p ∷ rest))
-
-abbrev pub is_begun : Chain → Bool
-is_begun [] = false
-is_begun (p ∷ rest) = true
 
 -- the image that a call found, where it found one
 abbrev pub image_if : Bool → UndoBuf → Option OldImage
 image_if found buf = if found then Some (image_in buf) else None
-
--- both ends are pages of a file of so many pages that may be given away
-pub record IsInside (pages : ℕ) (slot : Slot) : Type 0 where
-  pub first_from : first_fresh ≤ slot.first.0
-  pub first_to : slot.first.0 < pages
-  pub last_from : first_fresh ≤ slot.last.0
-  pub last_to : slot.last.0 < pages
-
--- that page breaks the rule of undo slots
-abbrev pub broken_at : ℕ → StoreFault
-broken_at page = Damaged page 10
-
--- a damaged page that is named breaks the rule of undo slots
-abbrev pub NamesUndo : StoreFault → Type 0
-NamesUndo Disk = ⊤
-NamesUndo Print = ⊤
-NamesUndo (Damaged page rule) = rule ≡ 10
-
--- the same, or a walk led over more pages than the file has
-abbrev pub NamesWalk : StoreFault → Type 0
-NamesWalk Disk = ⊤
-NamesWalk Print = ⊤
-NamesWalk (Damaged page rule) = (rule ≡ 10) ⊎ (rule ≡ 13)
 
 -- the same, or a rule of the space
 abbrev pub NamesChain : StoreFault → Type 0
@@ -70,9 +38,6 @@ pub record ChangesChain {S T : Type 0} (g : Ghosts S) (old new : S) (result : Re
   pub names : IfErr result NamesChain
 
 -- ---- what stands in a store of pages
-
-abbrev pub HasChainIn : {S : Type 0} → Ghosts S → S → List Ends → ℕ → Chain → Type 0
-HasChainIn g now slots slot chain = HasChain (g.shape now).pages (g.contents now) slots slot chain
 
 -- the slot has this chain, none of whose pages is free
 pub record HasStack (pages : ℕ) (contents : Contents) (slots : List Ends) (slot : ℕ) (chain : Chain) (s : Space) : Type 0 where

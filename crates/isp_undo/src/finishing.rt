@@ -6,17 +6,16 @@ ghost use Rattle.isp_page.specs.Steps.{IsNoDamage};
 ghost use Rattle.isp_space.specs.Changes.{MayChange};
 ghost use Rattle.isp_space.specs.Spaces.{Space};
 ghost use Rattle.std.specs.Prelude.{◌<◌};
-ghost use Rattle.isp_undo.specs.Calls.{ChangesChain, Finishes, HasStackIn, IsInside, most_pages};
-ghost use Rattle.isp_undo.specs.Chains.{Chain, ends_of};
+ghost use Rattle.isp_undo_walks.specs.Slots.{IsInside};
+ghost use Rattle.isp_undo.specs.Calls.{ChangesChain, Finishes, HasStackIn, most_pages};
+ghost use Rattle.isp_undo_walks.specs.Chains.{Chain, ends_of};
 ghost use Rattle.isp_undo_pages.specs.Directory.{ends_in};
 
-use crate::counting::count_pages;
-use crate::reading::read_slot;
-use crate::writing::write_slot;
 use isp_format::{Page, PageNo};
 use isp_page::{Pages, StoreFault};
 use isp_space::give_chain;
 use isp_undo_pages::Slot;
+use isp_undo_walks::{count_pages, read_slot, write_slot};
 
 // What the directory says of a slot without a chain.
 const NONE: Slot = Slot {

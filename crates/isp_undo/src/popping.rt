@@ -7,19 +7,20 @@ ghost use Rattle.isp_format.specs.Undo.{IsUndoPage, OldImage, Slot as Ends, imag
 ghost use Rattle.isp_page.specs.Steps.{IsNoDamage};
 ghost use Rattle.isp_space.specs.Changes.{MayChange, ReadsPages};
 ghost use Rattle.isp_space.specs.Spaces.{Space};
-ghost use Rattle.isp_undo.specs.Calls.{CanPopIn, ChangesChain, HasChainIn, IsInside, NamesWalk, Pops, broken_at, image_if, most_pages};
-ghost use Rattle.isp_undo.specs.Chains.{Chain, UndoPage, ends_of, newest_of};
-ghost use Rattle.isp_undo.specs.Walks.{CanCutIn, Cuts, IsWay, MayDrop, MayPopAt};
+ghost use Rattle.isp_undo_walks.specs.Slots.{HasChainIn, IsInside, NamesWalk, broken_at};
+ghost use Rattle.isp_undo.specs.Calls.{CanPopIn, ChangesChain, Pops, image_if, most_pages};
+ghost use Rattle.isp_undo_walks.specs.Chains.{Chain, UndoPage, ends_of};
+ghost use Rattle.isp_undo.specs.Chains.{newest_of};
+ghost use Rattle.isp_undo_walks.specs.Walks.{IsWay};
+ghost use Rattle.isp_undo.specs.Cutting.{CanCutIn, Cuts, MayDrop, MayPopAt};
 ghost use Rattle.isp_undo_pages.specs.Directory.{ends_in};
 ghost use Rattle.isp_undo_pages.specs.Entries.{IsBuf, image_in};
 
-use crate::reading::{DIRECTORY, broken, linked, read_slot};
-use crate::walking::{Stop, last_used};
-use crate::writing::{cut_page, write_slot};
 use isp_format::{CONTENT_PLACE, Page, PageNo, head};
 use isp_page::{Pages, StoreFault};
 use isp_space::give_chain;
 use isp_undo_pages::{MARKED_KIND, Slot, UndoBuf, newest, read_entry};
+use isp_undo_walks::{DIRECTORY, Stop, broken, cut_page, last_used, linked, read_slot, write_slot};
 
 // Reads the newest entry of a page with that number, where its entries end at that place.
 fn read_image(page: PageNo, p: &Page, used: usize, into: &mut UndoBuf) -> Result<(), StoreFault>

@@ -7,17 +7,18 @@ ghost use Rattle.isp_format.specs.Undo.{Slot as Ends, undo_slots};
 ghost use Rattle.isp_page.specs.Steps.{IsNoDamage};
 ghost use Rattle.isp_space.specs.Changes.{MayChange};
 ghost use Rattle.isp_space.specs.Spaces.{Space};
-ghost use Rattle.isp_undo.specs.Calls.{CanPushIn, ChangesChain, IsInside, Pushes, most_pages};
-ghost use Rattle.isp_undo.specs.Chains.{Chain, UndoPage, end_of, ends_of, takes_page};
+ghost use Rattle.isp_undo_walks.specs.Slots.{IsInside};
+ghost use Rattle.isp_undo.specs.Calls.{CanPushIn, ChangesChain, Pushes, most_pages};
+ghost use Rattle.isp_undo_walks.specs.Chains.{Chain, UndoPage, end_of, ends_of};
+ghost use Rattle.isp_undo.specs.Chains.{takes_page};
 ghost use Rattle.isp_undo_pages.specs.Directory.{ends_in};
 ghost use Rattle.isp_undo_pages.specs.Entries.{IsBuf, image_in};
 
-use crate::reading::{read_slot, read_undo};
-use crate::writing::{cut_page, make_page, push_on, write_slot};
 use isp_format::{PAGE_BYTES, Page, PageNo};
 use isp_page::{Pages, StoreFault};
 use isp_space::take_page;
 use isp_undo_pages::{Slot, UndoBuf, entry_size};
+use isp_undo_walks::{cut_page, make_page, push_on, read_slot, read_undo, write_slot};
 
 // Whether an entry of so many bytes has room behind that place.
 fn has_room(used: usize, size: usize) -> bool

@@ -6,8 +6,8 @@ use Rattle.isp_space.specs.Giving.{with_chain}
 use Rattle.isp_undo_pages.specs.Directory.{ends_in}
 use Rattle.isp_undo_pages.specs.declared.directory.Slot.{Slot}
 use Rattle.isp_undo.specs.Calls.{HasStack, Restacks}
-use Rattle.isp_undo.specs.Chains.{Chain, pages_of}
-use Rattle.isp_undo.proofs.ChainLaws.{ends_found, none_found}
+use Rattle.isp_undo_walks.specs.Chains.{Chain, pages_of}
+use Rattle.isp_undo_walks.proofs.ChainLaws.{ends_found, none_found}
 use Rattle.isp_undo.proofs.CutLaws.{none_given, stack_now}
 use Rattle.isp_undo.proofs.PopLaws.{restacks_from}
 use Rattle.isp_undo.proofs.finishing.finish.Goals as goal

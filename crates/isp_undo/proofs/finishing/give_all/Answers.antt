@@ -7,10 +7,10 @@ use Rattle.isp_space.specs.Giving.{with_chain}
 use Rattle.isp_space.specs.Spaces.{IsSpace}
 use Rattle.isp_undo_pages.specs.Directory.{ends_in}
 use Rattle.isp_undo.specs.Calls.{Restacks}
-use Rattle.isp_undo.specs.Chains.{pages_of}
+use Rattle.isp_undo_walks.specs.Chains.{pages_of}
 use Rattle.isp_undo.proofs.CutLaws.{all_back, given_all, given_pages, one_stays, stack_now}
 use Rattle.isp_undo.proofs.PopLaws.{restacks_from}
-use Rattle.isp_undo.proofs.WalkLaws.{way_of}
+use Rattle.isp_undo_walks.proofs.WalkLaws.{way_of}
 use Rattle.isp_undo.proofs.finishing.give_all.Goals as goal
 
 pub returns-in_err-count-clause-sound : goal.returns-in_err-count-clause-sound

@@ -1,6 +1,6 @@
 use Rattle.std.proofs.Common.{rules, ◌≢◌, [], ◌∷◌, ◌∙◌, ap}
 use Rattle.isp_format.specs.Undo.{Slot as Ends}
-use Rattle.isp_undo.specs.Chains.{first_page}
+use Rattle.isp_undo_walks.specs.Chains.{first_page}
 use Rattle.isp_undo.proofs.PopLaws.{at_front, can_cut, cut_stays}
 use Rattle.isp_undo.proofs.popping.drop_entry.Goals as goal
 

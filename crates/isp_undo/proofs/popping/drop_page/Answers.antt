@@ -5,7 +5,7 @@ use Rattle.isp_format.specs.Ranges.{Contents, page_of}
 use Rattle.isp_format.specs.Undo.{Slot as Ends}
 use Rattle.isp_page.specs.State.{FileShape}
 use Rattle.isp_undo.proofs.PopLaws.{before_of, can_cut_now, can_drop, drop_goes, restacks_from}
-use Rattle.isp_undo.proofs.WalkLaws.{way_of}
+use Rattle.isp_undo_walks.proofs.WalkLaws.{way_of}
 use Rattle.isp_undo.proofs.popping.drop_page.Goals as goal
 
 pub returns-in_err-before-clause-sound : goal.returns-in_err-before-clause-sound

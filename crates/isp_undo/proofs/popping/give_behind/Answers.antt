@@ -8,7 +8,7 @@ use Rattle.isp_space.proofs.SpaceLaws.{space_behind}
 use Rattle.isp_space.specs.Giving.{with_chain}
 use Rattle.isp_space.specs.Spaces.{IsSpace}
 use Rattle.isp_undo.specs.Calls.{Restacks}
-use Rattle.isp_undo.specs.Chains.{Chain, first_page, last_page, pages_of, undo_page}
+use Rattle.isp_undo_walks.specs.Chains.{Chain, first_page, last_page, pages_of, undo_page}
 use Rattle.isp_undo.proofs.CutLaws.{behind_cut, cut_behind, directory_stays, given_pages, last_at_end}
 use Rattle.isp_undo.proofs.PushLaws.{here_of, parts_of}
 use Rattle.isp_undo.proofs.popping.give_behind.Goals as goal

@@ -3,9 +3,10 @@ use Rattle.std.specs.Option.{option_map}
 use Rattle.isp_page.specs.State.{FileShape}
 use Rattle.isp_undo_pages.specs.Directory.{ends_in}
 use Rattle.isp_undo_pages.specs.declared.directory.Slot.{Slot}
-use Rattle.isp_undo.specs.Chains.{Chain, newest_of}
-use Rattle.isp_undo.proofs.ChainLaws.{ends_found, none_found}
-use Rattle.isp_undo.proofs.WalkLaws.{way_now, way_of}
+use Rattle.isp_undo_walks.specs.Chains.{Chain}
+use Rattle.isp_undo.specs.Chains.{newest_of}
+use Rattle.isp_undo_walks.proofs.ChainLaws.{ends_found, none_found}
+use Rattle.isp_undo_walks.proofs.WalkLaws.{way_now, way_of}
 use Rattle.isp_undo.proofs.popping.last.Goals as goal
 
 pub returns-in_err-there-in-Some-clause-sound : goal.returns-in_err-there-in-Some-clause-sound

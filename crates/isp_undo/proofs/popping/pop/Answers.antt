@@ -4,8 +4,8 @@ use Rattle.isp_format.specs.Ranges.{Contents, page_of}
 use Rattle.isp_page.specs.State.{FileShape}
 use Rattle.isp_undo_pages.specs.Directory.{ends_in}
 use Rattle.isp_undo_pages.specs.declared.directory.Slot.{Slot}
-use Rattle.isp_undo.specs.Chains.{Chain, images_of}
-use Rattle.isp_undo.proofs.ChainLaws.{ends_found, none_found}
+use Rattle.isp_undo_walks.specs.Chains.{Chain, images_of}
+use Rattle.isp_undo_walks.proofs.ChainLaws.{ends_found, none_found}
 use Rattle.isp_undo.proofs.CutLaws.{stack_now}
 use Rattle.isp_undo.proofs.PopLaws.{restacks_from}
 use Rattle.isp_undo.proofs.popping.pop.Goals as goal

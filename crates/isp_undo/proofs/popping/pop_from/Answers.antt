@@ -7,7 +7,7 @@ use Rattle.isp_undo_pages.specs.declared.entries.Spot.{Spot}
 use Rattle.std.proofs.lemmas.Result.{err_from_is_err_and}
 use Rattle.isp_page.specs.Steps.{IsNoDamage}
 use Rattle.isp_undo.proofs.PopLaws.{err_is, may_pop_now, may_pop_of, no_spot, one_spot, restacks_from, some_used, stopped_some}
-use Rattle.isp_undo.proofs.WalkLaws.{some_pages, way_of}
+use Rattle.isp_undo_walks.proofs.WalkLaws.{some_pages, way_of}
 use Rattle.isp_undo.proofs.popping.pop_from.Goals as goal
 
 pub returns-in_err-stop-clause-sound : goal.returns-in_err-stop-clause-sound

@@ -3,7 +3,7 @@ use Rattle.isp_format.specs.Undo.{IsUndoPage, OldImage, Slot as Ends}
 use Rattle.isp_undo_pages.specs.Directory.{ends_in}
 use Rattle.isp_undo.specs.Chains.{newest_in}
 use Rattle.isp_undo.proofs.PopLaws.{stopped_none, stopped_some}
-use Rattle.isp_undo.proofs.WalkLaws.{some_pages}
+use Rattle.isp_undo_walks.proofs.WalkLaws.{some_pages}
 use Rattle.isp_undo.proofs.popping.read_newest.Goals as goal
 
 pub returns-in_err-stop-clause-sound : goal.returns-in_err-stop-clause-sound

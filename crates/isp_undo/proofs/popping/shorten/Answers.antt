@@ -2,11 +2,11 @@ use Rattle.std.proofs.Common.{rules, ℕ, [], ◌∷◌, ◌++◌, sym, ap, subs
 use Rattle.isp_page.specs.State.{FileShape}
 use Rattle.isp_space.specs.Giving.{with_chain}
 use Rattle.isp_undo.specs.Calls.{Restacks}
-use Rattle.isp_undo.specs.Chains.{Chain, last_page, pages_of, undo_page}
+use Rattle.isp_undo_walks.specs.Chains.{Chain, last_page, pages_of, undo_page}
 use Rattle.isp_undo.proofs.CutLaws.{cut_alone}
 use Rattle.isp_undo.proofs.PopLaws.{none_behind, some_behind}
 use Rattle.isp_undo.proofs.PushLaws.{parts_of}
-use Rattle.isp_undo.specs.Walks.{CanCut}
+use Rattle.isp_undo.specs.Cutting.{CanCut}
 use Rattle.isp_undo.proofs.popping.shorten.Goals as goal
 
 pub returns-in_err-give_behind-clause-sound : goal.returns-in_err-give_behind-clause-sound

@@ -8,9 +8,10 @@ use Rattle.isp_space.proofs.ChangesLaws.{among_two, changes_on, changes_two}
 use Rattle.isp_space.specs.Spaces.{IsSpace, next_free, taken}
 use Rattle.isp_undo_pages.specs.Entries.{image_in}
 use Rattle.isp_undo.specs.Calls.{Restacks, page_taken, space_after}
-use Rattle.isp_undo.specs.Chains.{last_page, pushed}
-use Rattle.isp_undo.proofs.LinkLaws.{last_is}
-use Rattle.isp_undo.proofs.PageLaws.{changes_three}
+use Rattle.isp_undo_walks.specs.Chains.{last_page}
+use Rattle.isp_undo.specs.Chains.{pushed}
+use Rattle.isp_undo_walks.proofs.LinkLaws.{last_is}
+use Rattle.isp_undo_walks.proofs.PageLaws.{changes_three}
 use Rattle.isp_undo.proofs.PushLaws.{extended}
 use Rattle.isp_undo.proofs.pushing.extend.Goals as goal
 

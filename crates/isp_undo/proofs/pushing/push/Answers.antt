@@ -7,13 +7,15 @@ use Rattle.isp_space.specs.Spaces.{next_free}
 use Rattle.isp_undo_pages.specs.Directory.{ends_in}
 use Rattle.isp_undo_pages.specs.Entries.{image_in}
 use Rattle.isp_undo_pages.specs.declared.directory.Slot.{Slot}
-use Rattle.isp_undo.specs.Calls.{CanPush, IsInside, Restacks, page_taken, space_after}
-use Rattle.isp_undo.specs.Chains.{Chain, ends_of, pushed}
-use Rattle.isp_undo.proofs.ChainLaws.{ends_found, none_found}
-use Rattle.isp_undo.proofs.LinkLaws.{chain_end}
+use Rattle.isp_undo_walks.specs.Slots.{IsInside}
+use Rattle.isp_undo.specs.Calls.{CanPush, Restacks, page_taken, space_after}
+use Rattle.isp_undo_walks.specs.Chains.{Chain, ends_of}
+use Rattle.isp_undo.specs.Chains.{pushed}
+use Rattle.isp_undo_walks.proofs.ChainLaws.{ends_found, none_found}
+use Rattle.isp_undo_walks.proofs.LinkLaws.{chain_end}
 use Rattle.isp_undo.proofs.PopLaws.{restacks_from}
 use Rattle.isp_undo.proofs.PushLaws.{can_push_now}
-use Rattle.isp_undo.proofs.WalkLaws.{some_pages}
+use Rattle.isp_undo_walks.proofs.WalkLaws.{some_pages}
 use Rattle.isp_undo.proofs.pushing.push.Goals as goal
 
 pub returns-in_err-push_behind-in-Some-clause-sound : goal.returns-in_err-push_behind-in-Some-clause-sound

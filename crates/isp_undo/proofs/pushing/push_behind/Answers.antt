@@ -6,8 +6,9 @@ use Rattle.isp_page.specs.Touched.{KeepsPages}
 use Rattle.isp_space.specs.Spaces.{next_free}
 use Rattle.isp_undo_pages.specs.Entries.{image_in}
 use Rattle.isp_undo.specs.Calls.{Restacks, page_taken, space_after}
-use Rattle.isp_undo.specs.Chains.{last_page, pushed}
-use Rattle.isp_undo.proofs.LinkLaws.{last_is}
+use Rattle.isp_undo_walks.specs.Chains.{last_page}
+use Rattle.isp_undo.specs.Chains.{pushed}
+use Rattle.isp_undo_walks.proofs.LinkLaws.{last_is}
 use Rattle.isp_undo.proofs.PopLaws.{restacks_from}
 use Rattle.isp_undo.proofs.PushLaws.{can_push_now, parts_of, pushed_stays, takes_by}
 use Rattle.isp_undo.proofs.pushing.push_behind.Goals as goal

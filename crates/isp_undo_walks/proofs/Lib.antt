@@ -1,0 +1,4 @@
+pub mod ChainLaws
+pub mod LinkLaws
+pub mod PageLaws
+pub mod WalkLaws
