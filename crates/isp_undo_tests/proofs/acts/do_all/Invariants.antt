@@ -1,0 +1,10 @@
+use Rattle.std.proofs.Common.{◌≡◌, true}
+use Rattle.isp_page.specs.State.{none_begun}
+use Rattle.isp_undo_tests.proofs.acts.do_all.Given as goal
+
+abbrev pub invariant-loop-act : goal.invariant-loop-act
+invariant-loop-act g l = record {
+  usable : g.P.Pages.usable l.pages ≡ true;
+  none : g.P.Pages.mini l.pages ≡ none_begun;
+  shape : g.P.Pages.shape l.pages ≡ g.P.Pages.shape l.initial.pages;
+}

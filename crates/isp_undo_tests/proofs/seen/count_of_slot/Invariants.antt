@@ -1,0 +1,9 @@
+use Rattle.std.proofs.Common.{◌≡◌, true}
+use Rattle.isp_undo_tests.proofs.seen.count_of_slot.Given as goal
+
+abbrev pub invariant-loop-count : goal.invariant-loop-count
+invariant-loop-count g l = record {
+  usable : g.P.Pages.usable l.pages ≡ true;
+  mini : g.P.Pages.mini l.pages ≡ g.P.Pages.mini l.initial.pages;
+  shape : g.P.Pages.shape l.pages ≡ g.P.Pages.shape l.initial.pages;
+}
