@@ -11,7 +11,10 @@ use std::alloc::Global;
 
 // The row of key 5, POINT(5 5) with the number 4, and that of key 2, POINT(2 -3) with the number 1.
 const FIVE: [u8; 19] = [0, 0, 0, 0, 0, 0, 0, 4, 0, 9, 1, 0, 0, 0, 5, 0, 0, 0, 5];
-const TWO: [u8; 19] = [0, 0, 0, 0, 0, 0, 0, 1, 0, 9, 1, 0, 0, 0, 2, 255, 255, 255, 253];
+
+const TWO: [u8; 19] = [
+    0, 0, 0, 0, 0, 0, 0, 1, 0, 9, 1, 0, 0, 0, 2, 255, 255, 255, 253,
+];
 
 // The image of a row of 19 bytes.
 fn row_image(key: i64, row: &[u8; 19]) -> UndoBuf
@@ -30,6 +33,7 @@ fn row_image(key: i64, row: &[u8; 19]) -> UndoBuf
 
 // Key 1 of table 1, absent, in slot 1: one entry of 17 bytes, and both ends of the slot's chain.
 const ONE: [u8; 17] = [0, 0, 0, 1, 0, 0, 0, 0, 0, 0, 0, 1, 0, 0, 0, 0, 17];
+
 const ENDS: [u8; 8] = [0, 0, 0, 17, 0, 0, 0, 17];
 
 fn one_entry<P: Pages>(pages: &mut P) -> Result<bool, StoreFault>
@@ -46,9 +50,9 @@ fn one_entry<P: Pages>(pages: &mut P) -> Result<bool, StoreFault>
 
 // Two rows and a key without one.
 const THREE: [u8; 89] = [
-    0, 0, 0, 1, 0, 0, 0, 0, 0, 0, 0, 5, 1, 0, 19, 0, 0, 0, 0, 0, 0, 0, 4, 0, 9, 1, 0, 0, 0, 5, 0, 0,
-    0, 5, 0, 36, 0, 0, 0, 1, 0, 0, 0, 0, 0, 0, 0, 2, 1, 0, 19, 0, 0, 0, 0, 0, 0, 0, 1, 0, 9, 1, 0,
-    0, 0, 2, 255, 255, 255, 253, 0, 36, 0, 0, 0, 1, 0, 0, 0, 0, 0, 0, 0, 6, 0, 0, 0, 0, 17,
+    0, 0, 0, 1, 0, 0, 0, 0, 0, 0, 0, 5, 1, 0, 19, 0, 0, 0, 0, 0, 0, 0, 4, 0, 9, 1, 0, 0, 0, 5, 0,
+    0, 0, 5, 0, 36, 0, 0, 0, 1, 0, 0, 0, 0, 0, 0, 0, 2, 1, 0, 19, 0, 0, 0, 0, 0, 0, 0, 1, 0, 9, 1,
+    0, 0, 0, 2, 255, 255, 255, 253, 0, 36, 0, 0, 0, 1, 0, 0, 0, 0, 0, 0, 0, 6, 0, 0, 0, 0, 17,
 ];
 
 fn three_entries<P: Pages>(pages: &mut P) -> Result<bool, StoreFault>

@@ -81,12 +81,7 @@ fn act_of(stack: &Stack, slot: u32, at: u64) -> Act {
 }
 
 // Does a drawn call on the slot and on its list; whether the newest image is then that of the list.
-fn step<P: Pages>(
-    pages: &mut P,
-    slot: u32,
-    stack: &mut Stack,
-    at: u64,
-) -> Result<bool, StoreFault>
+fn step<P: Pages>(pages: &mut P, slot: u32, stack: &mut Stack, at: u64) -> Result<bool, StoreFault>
     requires usable { P.usable pages.old ≡ true }
     requires none { P.mini pages.old ≡ none_begun }
     requires slot { slot < undo_slots }

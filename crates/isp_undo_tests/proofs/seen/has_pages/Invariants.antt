@@ -1,5 +1,4 @@
 use Rattle.std.proofs.Common.{◌≡◌, true}
-
 use Rattle.isp_undo_tests.proofs.seen.has_pages.Given as goal
 
 abbrev pub invariant-loop-page : goal.invariant-loop-page
