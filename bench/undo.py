@@ -9,6 +9,7 @@ calls are to take twice as long: a call's time doesn't grow with the chain. The 
 built in a folder of its own, which takes minutes where the crates below it weren't proved yet.
 """
 import os
+import shutil
 import subprocess
 import sys
 import tempfile
@@ -185,10 +186,8 @@ def write(path, text):
 
 
 def build(folder):
-    """The program, built beside links to the crates that it uses."""
-    os.makedirs(os.path.join(folder, "crates"))
-    for name in os.listdir(os.path.join(TOP, "crates")):
-        os.symlink(os.path.join(TOP, "crates", name), os.path.join(folder, "crates", name))
+    """The program, built beside copies of the crates."""
+    shutil.copytree(os.path.join(TOP, "crates"), os.path.join(folder, "crates"), ignore=shutil.ignore_patterns("out"))
     with open(os.path.join(TOP, "crates.txt"), encoding="utf-8") as file:
         write(os.path.join(folder, "crates.txt"), file.read() + LINE)
     crate = os.path.join(folder, "crates", "undo_calls")

@@ -1,5 +1,5 @@
 -- What the calls on undo chains answer, and what they leave.
-use Rattle.std.specs.Prelude.{◌≡◌, ◌⊎◌, ℕ, ◌<◌, ◌≤◌, Bool, true, false, List, [], ◌∷◌, ◌++◌, length, Option, Some, None, Result, set, if◌then◌else◌, IfErr, OnOk, ⊤}
+use Rattle.std.specs.Prelude.{◌≡◌, ◌⊎◌, ℕ, ◌<◌, Bool, true, List, [], ◌∷◌, ◌++◌, length, Option, Some, None, Result, set, if◌then◌else◌, IfErr, OnOk, ⊤}
 use Rattle.isp_format.specs.Ranges.{Contents}
 use Rattle.isp_format.specs.Undo.{OldImage, Slot as Ends}
 use Rattle.isp_page.specs.Calls.{Continues}
