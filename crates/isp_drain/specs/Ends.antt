@@ -1,6 +1,6 @@
 -- Every drain ends: events are no more than some number of the state, somebody that isn't over never waits, and so each round of a drain has an
 -- event (waits without a cycle leave somebody who goes on; deadlocks as the MySQL 8.0 manual has them for InnoDB).
-use Rattle.std.specs.Prelude.{◌≡◌, ◌≤◌, ℕ, zero, suc, true, false, List, [], ◌∷◌, ◌++◌, filter, length}
+use Rattle.std.specs.Prelude.{◌≡◌, ◌≤◌, ℕ, zero, suc, true, false, List, [], ◌++◌, filter, length}
 use Rattle.isp_events.specs.State.{State, is_waiting}
 use Rattle.isp_events.specs.Ways.{Machine}
 use Rattle.isp_events.specs.Lines.{Line}
