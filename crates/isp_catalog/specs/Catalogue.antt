@@ -1,19 +1,20 @@
 -- The catalogue of a file: the definitions of its tables (the data dictionary of the MySQL 8.0 manual, far simpler). Tables are
 -- numbered from 1, and each number has its place: five definitions stand on a page, from page 2 on.
-use Rattle.std.specs.Prelude.{◌≡◌, ◌⊎◌, ℕ, ◌+◌, ◌<◌, ◌≤◌, Bool, true, false, not, ◌&&◌, List, [], ◌∷◌, length, map}
+use Rattle.std.specs.Prelude.{◌≡◌, ◌⊎◌, ℕ, ◌+◌, ◌<◌, ◌≤◌, Bool, true, false, not, ◌&&◌, List, [], ◌∷◌, length, map, ⊤}
 use Rattle.std.specs.List.{list_any}
 use Rattle.std.specs.Str.{bytes_eq}
 use Rattle.isp_disk.specs.Moments.{image_of, slice}
 use Rattle.isp_format.specs.Definition.{DefinedColumn, DefinedTable, StartsTable, bigint_kind, definition_page, definition_place, definition_size, geometry_kind, most_tables, varchar_kind}
 use Rattle.isp_format.specs.Empty.{first_fresh}
 use Rattle.isp_format.specs.Ranges.{Contents, page_of}
-use Rattle.isp_format.specs.Rules.{catalogue_rule}
+use Rattle.isp_format.specs.Rules.{catalogue_rule, space_rule}
 use Rattle.isp_plain.specs.declared.value.Column.{Column}
 use Rattle.isp_plain.specs.declared.value.Kind.{Kind}
 use Rattle.isp_plain.specs.declared.value.Kind.TheVariants as kind
 use Rattle.isp_page.specs.declared.fault.Fault.{Fault}
-use Rattle.isp_page.specs.declared.fault.Fault.TheVariants.{Store}
-use Rattle.isp_page.specs.declared.fault.StoreFault.TheVariants.{Damaged}
+use Rattle.isp_page.specs.declared.fault.Fault.TheVariants.{Memory, Store}
+use Rattle.isp_page.specs.declared.fault.StoreFault.{StoreFault}
+use Rattle.isp_page.specs.declared.fault.StoreFault.TheVariants.{Damaged, Disk, Print}
 use Rattle.isp_space.specs.Spaces.{IsSpace, Space}
 use Rattle.isp_catalog.specs.Limits.{AreColumns, IsName}
 use Rattle.isp_catalog.specs.declared.table.TableDef.{TableDef}
@@ -132,3 +133,13 @@ NoNewTable pages contents number defs = (def : TableDef) → IsDefined pages con
 abbrev pub NamesDefinition : ℕ → Contents → ℕ → List TableDef → Fault → Type 0
 NamesDefinition pages contents number defs (Store (Damaged page rule)) = (rule ≡ catalogue_rule) × (page ≡ definition_page number) × NoNewTable pages contents number defs
 NamesDefinition pages contents number defs _ = Unit {0}
+
+-- a damaged page that is named breaks the rule of definitions, or one of the space
+abbrev pub NamesCatalogue : StoreFault → Type 0
+NamesCatalogue Disk = ⊤
+NamesCatalogue Print = ⊤
+NamesCatalogue (Damaged page rule) = (space_rule ≤ rule) × (rule ≤ catalogue_rule)
+
+abbrev pub NamesCatalogueOrLacks : Fault → Type 0
+NamesCatalogueOrLacks (Store fault) = NamesCatalogue fault
+NamesCatalogueOrLacks Memory = ⊤

@@ -8,7 +8,7 @@ ghost use Rattle.isp_page.specs.State.{HasRoom, most_changed};
 ghost use Rattle.isp_page.specs.Steps.{IsNoDamage};
 ghost use Rattle.isp_page.specs.Touched.{Grows, KeepsPages, is_page};
 ghost use Rattle.isp_space.specs.Spaces.{Space};
-ghost use Rattle.isp_catalog.specs.Catalogue.{HasPlace, HasTables, IsNext, counted};
+ghost use Rattle.isp_catalog.specs.Catalogue.{HasPlace, HasTables, IsNext, NamesCatalogue, counted};
 ghost use Rattle.isp_catalog.specs.Writing.{Wrote};
 ghost use Rattle.isp_catalog.specs.declared.table.TableDef.{TableDef};
 
@@ -73,6 +73,7 @@ pub fn add<P: Pages>(pages: &mut P, t: &TableDef) -> Result<(), StoreFault>
     ensures sound { P.tells → (s : Space) (defs : List TableDef)
         → HasTables (P.shape pages.old).pages (P.contents pages.old) s defs → IsNext defs t.now
         → IfErr result IsNoDamage }
+    ensures names { IfErr result NamesCatalogue }
 {
     let count = count_table(pages)?;
     if count != t.number - 1 {

@@ -7,7 +7,7 @@ ghost use Rattle.isp_format.specs.Rules.{catalogue_rule};
 ghost use Rattle.isp_page.specs.Calls.{ContinuesOrLacks};
 ghost use Rattle.isp_page.specs.Steps.{IsNoDamageOrLacks};
 ghost use Rattle.isp_space.specs.Spaces.{IsSpace, Space};
-ghost use Rattle.isp_catalog.specs.Catalogue.{HasTables, IsDefined, NamesBroken, NamesDefinition, has_table};
+ghost use Rattle.isp_catalog.specs.Catalogue.{HasTables, IsDefined, NamesBroken, NamesCatalogueOrLacks, NamesDefinition, has_table};
 ghost use Rattle.isp_catalog.specs.declared.table.TableDef.{TableDef};
 
 use crate::reading::{page_of_number, table_at};
@@ -65,6 +65,7 @@ fn read_one<P: Pages>(
     ensures new { IfOk result (λ def. has_table defs.now def.name ≡ false) }
     ensures broken { P.tells → IfErr result (NamesDefinition (P.shape pages.old).pages
         (P.contents pages.old) number defs.now) }
+    ensures names { IfErr result NamesCatalogueOrLacks }
 {
     let p = page_of_number(number);
     let count = pages.pages();
@@ -102,6 +103,7 @@ pub fn load<P: Pages>(alloc: Global, pages: &mut P) -> Result<Vec<TableDef>, Fau
     ensures sound { P.tells → (s : Space) (defs : List TableDef)
         → HasTables (P.shape pages.old).pages (P.contents pages.old) s defs
         → IfErr result IsNoDamageOrLacks }
+    ensures names { IfErr result NamesCatalogueOrLacks }
 {
     let count = table_count(pages)?;
     if count > MOST_TABLES {

@@ -43,14 +43,6 @@ pub record IsEdited (pages : ℕ) (old new : Contents) (table root : ℕ) (tree 
   pub is_tree : IsTree pages new table root (on_leaves change tree)
   pub others : KeepsPages (λ page. is_among page (pages_of tree)) old new
 
--- so many bytes of a row find room on the leaf that the key goes to
-abbrev pub fits_on : ℤ → ℕ → Option TreeLeaf → Bool
-fits_on key size None = false
-fits_on key size (Some leaf) = is_fitting key size leaf.rows
-
-abbrev pub fits : ℤ → ℕ → Tree → Bool
-fits key size tree = fits_on key size (pick_leaf key tree.leaves)
-
 -- the tree has a row of that key; one whose slot holds so many bytes; one that is marked
 abbrev pub has : ℤ → Tree → Bool
 has key tree = has_key key (rows_of tree)

@@ -14,5 +14,5 @@ mod writing;
 
 pub use kept::{Kept, KeptRow, KeptRows, Leaf};
 pub use leaves::next_leaf;
-pub use reading::{fits, get};
+pub use reading::get;
 pub use writing::{create, drop_marked, mark, put, rewrite};

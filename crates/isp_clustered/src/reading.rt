@@ -12,11 +12,11 @@ ghost use Rattle.isp_levels.specs.Walks.{ReadsPage};
 ghost use Rattle.isp_clustered.specs.Calls.{HasTree, ReadsTree, ReadsTreeOrLacks};
 ghost use Rattle.isp_clustered.specs.Cells.{kept_of};
 ghost use Rattle.isp_clustered.specs.Found.{IsFoundLeaf};
-ghost use Rattle.isp_clustered.specs.Trees.{Tree, fits, rows_of};
+ghost use Rattle.isp_clustered.specs.Trees.{Tree, rows_of};
 
 use crate::kept::Kept;
 use isp_base::Bytes;
-use isp_cells::{Cell, Place, is_room, leaf_end, piece, place_of};
+use isp_cells::{Cell, Place, leaf_end, piece, place_of};
 use isp_format::{Page, PageNo, STORED_HEAD};
 use isp_levels::{broken, leaf_for};
 use isp_page::{Fault, Pages, StoreFault};
@@ -146,34 +146,5 @@ pub fn get<P: Pages>(
             Ok(got)
         }
         None => Err(Fault::Store(broken(leaf.page))),
-    }
-}
-
-/// Whether a row of so many bytes has room on the leaf that its key goes to, in the place of the row of its key if there is one.
-///
-/// # Errors
-///
-/// Disk; or Damaged, with the page that is read and rule 7, where that is no page of a tree.
-pub fn fits<P: Pages>(
-    pages: &mut P,
-    root: PageNo,
-    key: i64,
-    size: usize,
-) -> Result<bool, StoreFault>
-    requires usable { P.usable pages.old ≡ true }
-    requires page { root.0 < (P.shape pages.old).pages }
-    requires size { size ≤ 1000 }
-    ensures reads { ReadsTree P.Pages root.0 pages.old pages.new result }
-    ensures fits { P.tells → (table : ℕ) (tree : Tree)
-        → HasTree P.Pages pages.old table root.0 tree
-        → IfOk result (λ there. there ≡ fits key size tree) }
-    ensures sound { P.tells → (table : ℕ) (tree : Tree)
-        → HasTree P.Pages pages.old table root.0 tree → IfErr result IsNoDamage }
-{
-    let mut page = Page::zeros();
-    let leaf = find_leaf(pages, root, key, &mut page)?;
-    match place_of(&page, leaf.used, key) {
-        Some(place) => Ok(is_room(place, leaf.used, size)),
-        None => Err(broken(leaf.page)),
     }
 }

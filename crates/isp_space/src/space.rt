@@ -87,6 +87,7 @@ pub fn free_count<P: Pages>(pages: &mut P) -> Result<u32, StoreFault>
     ensures sound { P.tells → (s : Space)
         → IsSpace (P.shape pages.old).pages (P.contents pages.old) s
         → IfErr result IsNoDamage }
+    ensures names { IfErr result NamesSpace }
 {
     let mut page = Page::zeros();
     let numbers = read_numbers(pages, &mut page)?;
@@ -111,6 +112,7 @@ pub fn has_room<P: Pages>(pages: &mut P) -> Result<bool, StoreFault>
     ensures sound { P.tells → (s : Space)
         → IsSpace (P.shape pages.old).pages (P.contents pages.old) s
         → IfErr result IsNoDamage }
+    ensures names { IfErr result NamesSpace }
 {
     let mut page = Page::zeros();
     let numbers = read_numbers(pages, &mut page)?;
@@ -252,6 +254,7 @@ pub fn draw_number<P: Pages>(pages: &mut P) -> Result<u64, StoreFault>
     ensures sound { P.tells → (s : Space)
         → IsSpace (P.shape pages.old).pages (P.contents pages.old) s
         → s.entries + 1 < counter_limit → IfErr result IsNoDamage }
+    ensures names { IfErr result NamesSpace }
 {
     let mut page = Page::zeros();
     let numbers = read_numbers(pages, &mut page)?;
@@ -290,6 +293,7 @@ pub fn count_table<P: Pages>(pages: &mut P) -> Result<u32, StoreFault>
     ensures sound { P.tells → (s : Space)
         → IsSpace (P.shape pages.old).pages (P.contents pages.old) s
         → s.tables < most_tables → IfErr result IsNoDamage }
+    ensures names { IfErr result NamesSpace }
 {
     let mut page = Page::zeros();
     let numbers = read_numbers(pages, &mut page)?;
@@ -321,6 +325,7 @@ pub fn table_count<P: Pages>(pages: &mut P) -> Result<u32, StoreFault>
     ensures sound { P.tells → (s : Space)
         → IsSpace (P.shape pages.old).pages (P.contents pages.old) s
         → IfErr result IsNoDamage }
+    ensures names { IfErr result NamesSpace }
 {
     let mut page = Page::zeros();
     let numbers = read_numbers(pages, &mut page)?;

@@ -4,7 +4,7 @@ ghost use Rattle.isp_page.specs.State.{none_begun};
 
 use crate::acts::{Act, do_one};
 use crate::seen::{Seen, finds_all, has_leaf, lacks};
-use isp_clustered::{create, fits};
+use isp_clustered::create;
 use isp_format::{PAGE_BYTES, Page, PageNo, head};
 use isp_page::{Fault, MemPages, Pages, StoreFault};
 use std::alloc::Global;
@@ -200,8 +200,7 @@ fn is_so<P: Pages>(alloc: Global, pages: &mut P, row: &Row) -> Result<bool, Faul
     let listed = has_leaf(alloc, pages, root, row.rows)?;
     let found = finds_all(alloc, pages, root, row.rows)?;
     let lacked = lacks(alloc, pages, root, row.lacks)?;
-    let full = fits(pages, root, row.lacks, 1_000)?;
-    Ok(headed && listed && found && lacked && full == (row.used <= 3_083))
+    Ok(headed && listed && found && lacked)
 }
 
 fn are_so(alloc: Global) -> Result<bool, Fault> {
