@@ -232,22 +232,13 @@ fn refused<P: Pages>(pages: &mut P, acts: &[Act], last: Act) -> Result<(), Store
     Ok(())
 }
 
-/// Acts on an empty tree, the last of which finds no such row, or no room.
-static REFUSED: [(&[Act], Act); 6] = [
+/// Acts on an empty tree, the last of which finds no such row.
+static REFUSED: [(&[Act], Act); 5] = [
     (&[], Act::Mark(1)),
     (&[], Act::Rewrite(1, 0, false)),
     (&[Act::Put(1, 5)], Act::Rewrite(1, 6, false)),
     (&[Act::Put(1, 5)], Act::Drop(1)),
     (&[Act::Put(1, 5), Act::Mark(1)], Act::Drop(2)),
-    (
-        &[
-            Act::Put(1, 995),
-            Act::Put(2, 995),
-            Act::Put(3, 995),
-            Act::Put(4, 995),
-        ],
-        Act::Put(5, 0),
-    ),
 ];
 
 fn are_refused(alloc: Global) -> Result<bool, Fault> {
