@@ -10,6 +10,7 @@ ghost use Rattle.isp_page.specs.declared.fault.StoreFault.TheVariants.{Damaged};
 ghost use Rattle.isp_space.specs.Changes.{ChangesBy, MayChange};
 ghost use Rattle.isp_space.specs.Spaces.{Space, free_pages};
 ghost use Rattle.isp_creating.specs.Creating.{CanCreate, Created, Creates, MayDefine, with_root};
+ghost use Rattle.isp_image.specs.Faults.{NamesLater};
 
 use isp_catalog::{TableDef, add};
 use isp_clustered::create;
@@ -40,6 +41,7 @@ fn plant<P: Pages>(pages: &mut P, number: u32) -> Result<PageNo, StoreFault>
         → IfOk result (λ page. Plants P.Pages pages.old pages.new number s page.0) }
     ensures sound { P.tells → (s : Space) → HasSpace P.Pages pages.old s
         → 0 < free_pages (P.shape pages.old).pages s → IfErr result IsNoDamage }
+    ensures later { IfErr result NamesLater }
 {
     let page = create(pages, number)?;
     let root = root_or(page)?;
@@ -59,6 +61,7 @@ fn fill<P: Pages>(pages: &mut P, def: &mut TableDef) -> Result<(), StoreFault>
         → OnOk result (Created (P.shape pages.old).pages (P.contents pages.new) def.new d) }
     ensures sound { P.tells → (d : Database) → CanCreate (P.shape pages.old).pages
         (P.contents pages.old) def.old.number def.old.name d → IfErr result IsNoDamage }
+    ensures later { IfErr result NamesLater }
 {
     let root = plant(pages, def.number)?;
     def.root = root;
@@ -82,6 +85,7 @@ fn begin_create<P: Pages>(pages: &mut P, def: &mut TableDef) -> Result<(), Store
         → OnOk result (Created (P.shape pages.old).pages (P.contents pages.new) def.new d) }
     ensures sound { P.tells → (d : Database) → CanCreate (P.shape pages.old).pages
         (P.contents pages.old) def.old.number def.old.name d → IfErr result IsNoDamage }
+    ensures later { IfErr result NamesLater }
 {
     pages.begin();
     fill(pages, def)?;
@@ -110,6 +114,7 @@ pub fn create_table<P: Pages>(pages: &mut P, def: &mut TableDef) -> Result<(), S
         → OnOk result (Created (P.shape pages.old).pages (P.contents pages.new) def.new d) }
     ensures sound { P.tells → (d : Database) → CanCreate (P.shape pages.old).pages
         (P.contents pages.old) def.old.number def.old.name d → IfErr result IsNoDamage }
+    ensures later { IfErr result NamesLater }
 {
     match begin_create(pages, def) {
         Ok(()) => pages.finish(),

@@ -4,6 +4,7 @@ ghost use Rattle.std.specs.Prelude.{◌≡◌, ◌<◌, is_some, true, IfErr, If
 ghost use Rattle.isp_changes.specs.Rows.{row_at};
 ghost use Rattle.isp_file_laws.specs.Seen.{is_live};
 ghost use Rattle.isp_image.specs.Databases.{FileTable, shown};
+ghost use Rattle.isp_image.specs.Faults.{NamesLaterOrLacks};
 ghost use Rattle.isp_page.specs.Calls.{ContinuesOrLacks};
 ghost use Rattle.isp_page.specs.Steps.{IsNoDamageOrLacks};
 ghost use Rattle.isp_scan.specs.Scanning.{HasFileTable};
@@ -43,6 +44,7 @@ pub fn is_taken<P: Pages>(
         → IfOk result (λ taken. taken ≡ is_some (row_at (shown t.rows) key)) }
     ensures sound { P.tells → (t : FileTable) → HasFileTable P.Pages pages.old def.now t
         → IfErr result IsNoDamageOrLacks }
+    ensures later { IfErr result NamesLaterOrLacks }
 {
     let got = get(alloc, pages, def.root, key)?;
     Ok(is_shown(&got))

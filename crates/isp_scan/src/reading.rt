@@ -2,6 +2,7 @@
 
 ghost use Rattle.std.specs.Prelude.{◌≡◌, ◌<◌, true, IfErr, IfOk, OnOk};
 ghost use Rattle.isp_image.specs.Databases.{FileTable, shown};
+ghost use Rattle.isp_image.specs.Faults.{NamesLaterOrLacks};
 ghost use Rattle.isp_page.specs.Calls.{ContinuesOrLacks};
 ghost use Rattle.isp_page.specs.Steps.{IsNoDamageOrLacks};
 ghost use Rattle.isp_work.specs.Finding.{found_in, held_by, updated_by};
@@ -36,6 +37,7 @@ fn read_updated<P: Pages>(
         → IfOk result (λ found. found ≡ updated_by def.now.schema sets.now (held_by w.now (shown t.rows))) }
     ensures sound { P.tells → (t : FileTable) → HasFileTable P.Pages pages.old def.now t
         → IfErr result IsNoDamageOrLacks }
+    ensures later { IfErr result NamesLaterOrLacks }
 {
     let rows = scan(alloc, pages, def, w)?;
     match updated_rows(alloc, &def.schema, sets, rows.as_slice())? {
@@ -67,6 +69,7 @@ pub fn read_rows<P: Pages>(
         → IfOk result (λ found. found ≡ found_in def.now.schema statement.now (shown t.rows)) }
     ensures sound { P.tells → (t : FileTable) → HasFileTable P.Pages pages.old def.now t
         → IfErr result IsNoDamageOrLacks }
+    ensures later { IfErr result NamesLaterOrLacks }
 {
     match statement {
         Statement::Select { columns, w, .. } => {

@@ -4,6 +4,7 @@ ghost use Rattle.std.specs.Prelude.{◌≡◌, ◌<◌, ◌++◌, List, Some, tr
 ghost use Rattle.std.specs.Option.{option_map};
 ghost use Rattle.isp_clustered.specs.Trees.{Tree, leaf_after};
 ghost use Rattle.isp_image.specs.Databases.{FileRow, FileTable};
+ghost use Rattle.isp_image.specs.Faults.{NamesLaterOrLacks};
 ghost use Rattle.isp_levels.specs.Inners.{number_of};
 ghost use Rattle.isp_levels.specs.Levels.{TreeLeaf};
 ghost use Rattle.isp_page.specs.Calls.{ContinuesOrLacks};
@@ -58,6 +59,7 @@ fn scan_leaf<P: Pages>(
     ensures sound { P.tells → (tree : Tree) (leaf : TreeLeaf) (there : List FileRow)
         → HasLeafRows P.Pages pages.old def.now (number_of after) tree leaf there
         → IfErr result IsNoDamageOrLacks }
+    ensures later { IfErr result NamesLaterOrLacks }
 {
     let leaf = next_leaf(alloc, pages, def.root, after)?;
     match held_in(alloc, &def.schema, w, leaf.rows.as_slice()) {
@@ -95,6 +97,7 @@ pub fn scan<P: Pages>(
         → IfOk result (λ rows. rows ≡ held_rows w.now t.rows) }
     ensures sound { P.tells → (t : FileTable) → HasFileTable P.Pages pages.old def.now t
         → IfErr result IsNoDamageOrLacks }
+    ensures later { IfErr result NamesLaterOrLacks }
 {
     let count = pages.pages();
     let mut rows = Rows::new(alloc);

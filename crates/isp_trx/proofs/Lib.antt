@@ -2,7 +2,6 @@ pub mod CommitLaws
 pub mod LoopLaws
 pub mod Makes
 pub mod MoreMakes
-pub mod RoomLaws
 pub mod RootLaws
 pub mod SweepLaws
 pub mod UndoLaws

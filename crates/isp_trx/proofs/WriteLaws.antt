@@ -13,7 +13,7 @@ use Rattle.isp_space.specs.Spaces.{Space}
 use Rattle.isp_clustered.specs.Cells.{kept_of}
 use Rattle.isp_clustered.specs.Puts.{CanPut, IsPut, taken_times}
 use Rattle.isp_clustered.specs.Rows.{exchanged, find, may_put, new_row, rewritten, slot_holds, slot_less, with_row}
-use Rattle.isp_clustered.specs.Trees.{IsEdited, IsTree, Tree, fits, holds, on_leaves, rows_of}
+use Rattle.isp_clustered.specs.Trees.{IsEdited, IsTree, Tree, holds, on_leaves, rows_of}
 use Rattle.isp_clustered.proofs.TreeLaws.{written_at}
 use Rattle.isp_image.specs.Courses.{IsPutSpace, IsWritten, stood, writes}
 use Rattle.isp_image.specs.Databases.{Database, FileImage, FileRow, FileTable, image_of, row_key, seen, tables_of}
@@ -27,7 +27,7 @@ use Rattle.isp_image.proofs.StepLaws.{exchanged_only, written_committed, written
 use Rattle.isp_image.proofs.StoredLaws.{exchanged_rows, find_row}
 use Rattle.isp_image.proofs.TreeChanges.{can_put, edited_regrown, put_regrown}
 use Rattle.isp_trx.specs.Transactions.{old_image}
-use Rattle.isp_trx.specs.Writes.{CanWrite, FitsLeaf, Writes, Wrote, images_of, is_smaller, place_of, Write}
+use Rattle.isp_trx.specs.Writes.{CanWrite, Writes, Wrote, images_of, is_smaller, place_of, Write}
 use Rattle.isp_trx.specs.declared.noted.RowKey.{RowKey}
 
 -- ---- what stands at the key
@@ -233,10 +233,10 @@ edit_call pages pages_now old new images w key at shape large call = record {
       wrote_edit pages old new images w d t row can large (subst (λ (n : ℕ). IsEdited n old new (suc (place_of w.at)) w.root t.tree (with_row w.at.key w.row w.marked)) shape here);
 }
 
-pub put_sound : (pages : ℕ) (old : Contents) (images : List OldImage) (w : Write) (d : Database) (t : FileTable) (row : Row) (key : ℤ) (P : Type 0) → key ≡ w.at.key → CanWrite pages old images w d t row → is_smaller (length w.row) w.old ≡ true → FitsLeaf w t
-    → ((table : ℕ) (tree : Tree) (s : Space) → CanPut pages old table w.root key (length w.row) tree s → fits key (length w.row) tree ≡ true → P) → P
-put_sound pages old images w d t row key P at can small room call =
-    call (suc (place_of w.at)) t.tree d.space (can_put_at pages old images w d t row key at can small) (ap (λ (k : ℤ). fits k (length w.row) t.tree) at ∙ room small)
+pub put_sound : (pages : ℕ) (old : Contents) (images : List OldImage) (w : Write) (d : Database) (t : FileTable) (row : Row) (key : ℤ) (P : Type 0) → key ≡ w.at.key → CanWrite pages old images w d t row → is_smaller (length w.row) w.old ≡ true
+    → ((table : ℕ) (tree : Tree) (s : Space) → CanPut pages old table w.root key (length w.row) tree s → P) → P
+put_sound pages old images w d t row key P at can small call =
+    call (suc (place_of w.at)) t.tree d.space (can_put_at pages old images w d t row key at can small)
 
 pub edit_sound : (pages : ℕ) (old : Contents) (images : List OldImage) (w : Write) (d : Database) (t : FileTable) (row : Row) (key : ℤ) (P : Type 0) → key ≡ w.at.key → CanWrite pages old images w d t row → is_smaller (length w.row) w.old ≡ false
     → ((table : ℕ) (tree : Tree) → IsTree pages old table w.root tree → holds key (length w.row) tree ≡ true → P) → P

@@ -4,7 +4,7 @@ use Rattle.std.specs.List.{AllByRecursion, list_any}
 use Rattle.std.specs.Option.{option_map}
 use Rattle.isp_clustered.specs.Cells.{kept_of}
 use Rattle.isp_clustered.specs.Rows.{find, without}
-use Rattle.isp_clustered.specs.Trees.{IsEdited, IsTree, Tree, fits, rows_of}
+use Rattle.isp_clustered.specs.Trees.{IsEdited, IsTree, Tree, rows_of}
 use Rattle.isp_clustered.specs.declared.kept.Kept.{Kept}
 use Rattle.isp_format.specs.Ranges.{Contents}
 use Rattle.isp_format.specs.Undo.{OldImage}
@@ -53,19 +53,6 @@ pub record CanWrite (pages : ℕ) (contents : Contents) (images : List OldImage)
   pub spells : IsSpelling t.def.schema w.at.key w.row row
   pub room : has_room pages d.space ≡ true
   pub unmarked : is_smaller (length w.row) w.old ≡ true → w.marked ≡ false
-
--- for now a leaf has to have room
-abbrev pub FitsLeaf : Write → FileTable → Type 0
-FitsLeaf w t = is_smaller (length w.row) w.old ≡ true → fits w.at.key (length w.row) t.tree ≡ true
-
--- whether a row of so many bytes may be written at a key where that stands: there is room for one more change, and, where the row
--- has to be put, on its leaf
-abbrev pub finds_leaf : Bool → ℤ → ℕ → Tree → Bool
-finds_leaf true key size tree = fits key size tree
-finds_leaf false key size tree = true
-
-abbrev pub can_take : ℕ → ℤ → ℕ → Option Kept → Tree → Space → Bool
-can_take pages key size old tree s = if has_room pages s then finds_leaf (is_smaller size old) key size tree else false
 
 -- the change of plain tables that it is
 abbrev pub change_of : Write → Row → RowChange

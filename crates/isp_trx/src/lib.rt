@@ -4,7 +4,6 @@
 //!
 //! - `noted`, `order`: keys, in their order, and what stood at one.
 //! - `trx`: a transaction as a value.
-//! - `room`: whether a row may be written.
 //! - `writing`, `undoing`, `ending`: its calls over pages, each of which finishes what it changes.
 //! - `sweeping`: marked rows that go once it has ended; `laws`: that they may go one by one.
 #![tactic(auto)]
@@ -13,7 +12,6 @@ mod ending;
 mod laws;
 mod noted;
 mod order;
-mod room;
 mod roots;
 mod sweeping;
 mod trx;
@@ -23,6 +21,5 @@ mod writing;
 pub use laws::{law_sweeps_begin, law_sweeps_go_on};
 pub use noted::RowKey;
 pub use order::rising;
-pub use room::may_write;
 pub use sweeping::{drop_if_marked, drop_marked_rows};
 pub use trx::Trx;

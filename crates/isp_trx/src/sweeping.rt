@@ -6,13 +6,14 @@ ghost use Rattle.isp_clustered.specs.Trees.{Tree, has_marked};
 ghost use Rattle.isp_page.specs.Calls.{Continues, ContinuesOrLacks, MakesWith};
 ghost use Rattle.isp_page.specs.Steps.{FailsOnPages, FailsOrLacks, IsNoDamage, IsNoDamageOrLacks};
 ghost use Rattle.isp_image.specs.Databases.{Database};
+ghost use Rattle.isp_image.specs.Faults.{NamesLater, NamesLaterOrLacks};
 ghost use Rattle.isp_trx.specs.Roots.{AreWithin, numbers_of};
 ghost use Rattle.isp_trx.specs.Writes.{CanSweep, Drops, Sweeps, SweepsAt, SweepsSome, kept_mark};
 
 use crate::noted::RowKey;
 use crate::roots::root_of;
 use isp_clustered::{Kept, drop_marked, get};
-use isp_format::PageNo;
+use isp_format::{CATALOGUE_RULE, PageNo, SPACE_PAGE};
 use isp_page::{Fault, Pages, StoreFault};
 use std::alloc::Global;
 
@@ -39,6 +40,7 @@ fn finds_mark<P: Pages>(alloc: Global, pages: &mut P, root: PageNo, key: i64) ->
     ensures sound { P.tells → (table : ℕ) (tree : Tree) → HasTree P.Pages pages.old table root.0
         tree
         → IfErr result IsNoDamageOrLacks }
+    ensures later { IfErr result NamesLaterOrLacks }
 {
     let got = get(alloc, pages, root, key)?;
     Ok(has_mark(&got))
@@ -56,6 +58,7 @@ fn drop_tree<P: Pages>(pages: &mut P, root: PageNo, at: RowKey) -> Result<(), St
     ensures sound { P.tells → (table : ℕ) (tree : Tree) → HasTree P.Pages pages.old table root.0
         tree
         → has_marked at.key tree ≡ true → IfErr result IsNoDamage }
+    ensures later { IfErr result NamesLater }
 {
     drop_marked(pages, root, at.key)
 }
@@ -73,6 +76,7 @@ fn begin_drop<P: Pages>(pages: &mut P, root: PageNo, at: RowKey) -> Result<(), S
     ensures sound { P.tells → (table : ℕ) (tree : Tree) → HasTree P.Pages pages.old table root.0
         tree
         → has_marked at.key tree ≡ true → IfErr result IsNoDamage }
+    ensures later { IfErr result NamesLater }
 {
     pages.begin();
     drop_tree(pages, root, at)?;
@@ -94,6 +98,7 @@ fn drop_row<P: Pages>(pages: &mut P, root: PageNo, at: RowKey) -> Result<(), Sto
     ensures sound { P.tells → (table : ℕ) (tree : Tree) → HasTree P.Pages pages.old table root.0
         tree
         → has_marked at.key tree ≡ true → IfErr result IsNoDamage }
+    ensures later { IfErr result NamesLater }
 {
     match begin_drop(pages, root, at) {
         Ok(()) => pages.finish(),
@@ -126,6 +131,7 @@ pub fn drop_if_marked<P: Pages>(
     ensures sound { P.tells → (table : ℕ) (tree : Tree) → HasTree P.Pages pages.old table root.0
         tree
         → IfErr result IsNoDamageOrLacks }
+    ensures later { IfErr result NamesLaterOrLacks }
 {
     match finds_mark(alloc, pages, root, at.key) {
         Ok(true) => match drop_row(pages, root, at) {
@@ -156,10 +162,14 @@ fn drop_key<P: Pages>(
     ensures sound { P.tells → (d : Database) → CanSweep (P.shape pages.old).pages
         (P.contents pages.old) (numbers_of roots.now) (at ∷ []) d
         → IfErr result IsNoDamageOrLacks }
+    ensures later { IfErr result NamesLaterOrLacks }
 {
     match root_of(roots, at.table) {
         Some(root) => drop_if_marked(alloc, pages, root, at),
-        None => Err(Fault::Store(StoreFault::Damaged { page: 0, rule: 6 })),
+        None => Err(Fault::Store(StoreFault::Damaged {
+            page: SPACE_PAGE,
+            rule: CATALOGUE_RULE,
+        })),
     }
 }
 
@@ -187,6 +197,7 @@ pub fn drop_marked_rows<P: Pages>(
     ensures sound { P.tells → (d : Database) → CanSweep (P.shape pages.old).pages
         (P.contents pages.old) (numbers_of roots.now) keys.now d
         → IfErr result IsNoDamageOrLacks }
+    ensures later { IfErr result NamesLaterOrLacks }
 {
     for at in keys {
         match drop_key(alloc, pages, roots, *at) {

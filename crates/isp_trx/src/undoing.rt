@@ -4,6 +4,7 @@ ghost use Rattle.isp_base.specs.declared.page_no.PageNo.{PageNo};
 ghost use Rattle.isp_space.specs.Changes.{MayChange};
 ghost use Rattle.isp_format.specs.Undo.{OldImage};
 ghost use Rattle.isp_image.specs.Databases.{Database};
+ghost use Rattle.isp_image.specs.Faults.{NamesLater};
 ghost use Rattle.isp_page.specs.Calls.{Continues, MakesWith};
 ghost use Rattle.isp_page.specs.Steps.{FailsOnPages, IsNoDamage};
 ghost use Rattle.isp_trx.specs.Noted.{image_in};
@@ -15,7 +16,7 @@ use crate::noted::Noted;
 use crate::roots::root_of;
 use crate::trx::Trx;
 use isp_clustered::{mark, rewrite};
-use isp_format::PageNo;
+use isp_format::{PageNo, UNDO_DIRECTORY_PAGE, UNDO_RULE};
 use isp_page::{Pages, StoreFault};
 
 // Puts what stood at a key back into its slot, or marks the row where none stood.
@@ -34,6 +35,7 @@ fn put_back<P: Pages>(pages: &mut P, root: PageNo, noted: &Noted) -> Result<(), 
         → CanUndo (P.shape pages.old).pages (P.contents pages.old) (image_in noted.now ∷ images)
         roots d
         → IfErr result IsNoDamage }
+    ensures later { IfErr result NamesLater }
 {
     match &noted.old {
         Some(kept) => rewrite(pages, root, noted.at.key, kept.row.as_slice(), kept.marked),
@@ -58,6 +60,7 @@ fn begin_put_back<P: Pages>(pages: &mut P, root: PageNo, noted: &Noted) -> Resul
         → CanUndo (P.shape pages.old).pages (P.contents pages.old) (image_in noted.now ∷ images)
         roots d
         → IfErr result IsNoDamage }
+    ensures later { IfErr result NamesLater }
 {
     pages.begin();
     put_back(pages, root, noted)?;
@@ -78,10 +81,14 @@ fn begin_undo<P: Pages>(pages: &mut P, roots: &[PageNo], noted: &Noted) -> Resul
     ensures sound { P.tells → (images : List OldImage) (d : Database)
         → CanUndo (P.shape pages.old).pages (P.contents pages.old) (image_in noted.now ∷ images)
         (numbers_of roots.now) d → IfErr result IsNoDamage }
+    ensures later { IfErr result NamesLater }
 {
     match root_of(roots, noted.at.table) {
         Some(root) => begin_put_back(pages, root, noted),
-        None => Err(StoreFault::Damaged { page: 1, rule: 10 }),
+        None => Err(StoreFault::Damaged {
+            page: UNDO_DIRECTORY_PAGE,
+            rule: UNDO_RULE,
+        }),
     }
 }
 
@@ -102,6 +109,7 @@ fn undo_pages<P: Pages>(pages: &mut P, roots: &[PageNo], noted: &Noted) -> Resul
     ensures sound { P.tells → (images : List OldImage) (d : Database)
         → CanUndo (P.shape pages.old).pages (P.contents pages.old) (image_in noted.now ∷ images)
         (numbers_of roots.now) d → IfErr result IsNoDamage }
+    ensures later { IfErr result NamesLater }
 {
     match begin_undo(pages, roots, noted) {
         Ok(()) => pages.finish(),
@@ -127,6 +135,7 @@ fn undo_noted<P: Pages>(pages: &mut P, roots: &[PageNo], noted: &Noted) -> Resul
     ensures sound { P.tells → (images : List OldImage) (d : Database)
         → CanUndo (P.shape pages.old).pages (P.contents pages.old) (image_in noted.now ∷ images)
         (numbers_of roots.now) d → IfErr result IsNoDamage }
+    ensures later { IfErr result NamesLater }
 {
     match undo_pages(pages, roots, noted) {
         Ok(()) => Ok(true),
@@ -161,9 +170,11 @@ impl Trx {
             self.old.images (numbers_of roots.now) (P.contents pages.new)) }
         ensures noted { OnOk result (HasUndone self.old self.new) }
         ensures more { IfOk result (λ more. more ≡ not (is_empty self.old.images)) }
+        ensures session { self.new.session ≡ self.old.session }
         ensures sound { P.tells → (d : Database) → CanUndo (P.shape pages.old).pages (P.contents
             pages.old)
             self.old.images (numbers_of roots.now) d → IfErr result IsNoDamage }
+        ensures later { IfErr result NamesLater }
     {
         match self.newest() {
             Some(noted) => undo_noted(pages, roots, &noted),

@@ -2,13 +2,15 @@
 ghost use Rattle.std.specs.Prelude.{◌≡◌, ◌≤◌, ◌<◌, ℕ, List, true, false, length, IfErr, OnOk};
 ghost use Rattle.isp_space.specs.Changes.{MayChange};
 ghost use Rattle.isp_clustered.specs.Puts.{most_put};
+ghost use Rattle.isp_format.specs.Leaf.{most_slot};
 ghost use Rattle.isp_format.specs.Undo.{OldImage};
 ghost use Rattle.isp_image.specs.Databases.{Database, FileTable};
+ghost use Rattle.isp_image.specs.Faults.{NamesLater};
 ghost use Rattle.isp_page.specs.Calls.{Continues, MakesWith};
 ghost use Rattle.isp_page.specs.Steps.{FailsOnPages, IsNoDamage};
 ghost use Rattle.isp_plain.specs.declared.value.Row.{Row};
 ghost use Rattle.isp_trx.specs.Transactions.{HasNoted};
-ghost use Rattle.isp_trx.specs.Writes.{CanWrite, FitsLeaf, Writes, is_smaller, write_at};
+ghost use Rattle.isp_trx.specs.Writes.{CanWrite, Writes, is_smaller, write_at};
 
 use crate::noted::RowKey;
 use crate::trx::Trx;
@@ -17,7 +19,7 @@ use isp_format::PageNo;
 use isp_page::{Pages, StoreFault};
 
 // Whether a row of so many bytes has to be put, since its key isn't there or has a smaller slot.
-pub(crate) fn is_put(old: &Option<Kept>, size: usize) -> bool
+fn is_put(old: &Option<Kept>, size: usize) -> bool
     ensures { result ≡ is_smaller size old.now }
 {
     match old {
@@ -37,7 +39,7 @@ fn write_tree<P: Pages>(
 ) -> Result<(), StoreFault>
     requires can { MayChange P.Pages most_put pages.old }
     requires page { root.0 < (P.shape pages.old).pages }
-    requires row { length row.now ≤ 1000 }
+    requires row { length row.now ≤ most_slot }
     ensures kept { Continues P.Pages pages.old pages.new result }
     ensures begun { OnOk result ((P.mini pages.new).is_begun ≡ true) }
     ensures written { P.tells → (images : List OldImage) → OnOk result (Writes (P.shape
@@ -46,8 +48,8 @@ fn write_tree<P: Pages>(
         pages.new)) }
     ensures sound { P.tells → (images : List OldImage) (d : Database) (t : FileTable) (r : Row)
         → CanWrite (P.shape pages.old).pages (P.contents pages.old) images
-        (write_at at root.0 old.now row.now marked) d t r
-        → FitsLeaf (write_at at root.0 old.now row.now marked) t → IfErr result IsNoDamage }
+        (write_at at root.0 old.now row.now marked) d t r → IfErr result IsNoDamage }
+    ensures later { IfErr result NamesLater }
 {
     if is_put(old, row.len()) {
         put(pages, root, at.key, row)
@@ -68,7 +70,7 @@ fn begin_write<P: Pages>(
     requires usable { P.usable pages.old ≡ true }
     requires none { (P.mini pages.old).is_begun ≡ false }
     requires page { root.0 < (P.shape pages.old).pages }
-    requires row { length row.now ≤ 1000 }
+    requires row { length row.now ≤ most_slot }
     ensures kept { Continues P.Pages pages.old pages.new result }
     ensures begun { OnOk result ((P.mini pages.new).is_begun ≡ true) }
     ensures written { P.tells → (images : List OldImage) → OnOk result (Writes (P.shape
@@ -77,8 +79,8 @@ fn begin_write<P: Pages>(
         pages.new)) }
     ensures sound { P.tells → (images : List OldImage) (d : Database) (t : FileTable) (r : Row)
         → CanWrite (P.shape pages.old).pages (P.contents pages.old) images
-        (write_at at root.0 old.now row.now marked) d t r
-        → FitsLeaf (write_at at root.0 old.now row.now marked) t → IfErr result IsNoDamage }
+        (write_at at root.0 old.now row.now marked) d t r → IfErr result IsNoDamage }
+    ensures later { IfErr result NamesLater }
 {
     pages.begin();
     write_tree(pages, root, at, old, row, marked)?;
@@ -97,7 +99,7 @@ fn write_pages<P: Pages>(
     requires usable { P.usable pages.old ≡ true }
     requires none { (P.mini pages.old).is_begun ≡ false }
     requires page { root.0 < (P.shape pages.old).pages }
-    requires row { length row.now ≤ 1000 }
+    requires row { length row.now ≤ most_slot }
     ensures made { (images : List OldImage) → MakesWith FailsOnPages P.Pages (Writes (P.shape
         pages.old).pages
         (P.contents pages.old) images (write_at at root.0 old.now row.now marked)) pages.old
@@ -109,8 +111,8 @@ fn write_pages<P: Pages>(
         pages.new)) }
     ensures sound { P.tells → (images : List OldImage) (d : Database) (t : FileTable) (r : Row)
         → CanWrite (P.shape pages.old).pages (P.contents pages.old) images
-        (write_at at root.0 old.now row.now marked) d t r
-        → FitsLeaf (write_at at root.0 old.now row.now marked) t → IfErr result IsNoDamage }
+        (write_at at root.0 old.now row.now marked) d t r → IfErr result IsNoDamage }
+    ensures later { IfErr result NamesLater }
 {
     match begin_write(pages, root, at, old, row, marked) {
         Ok(()) => pages.finish(),
@@ -139,7 +141,7 @@ impl Trx {
         requires usable { P.usable pages.old ≡ true }
         requires none { (P.mini pages.old).is_begun ≡ false }
         requires page { root.0 < (P.shape pages.old).pages }
-        requires row { length row.now ≤ 1000 }
+        requires row { length row.now ≤ most_slot }
         requires spare { 1 ≤ self.old.spare }
         ensures made { MakesWith FailsOnPages P.Pages (Writes (P.shape pages.old).pages (P.contents
             pages.old)
@@ -149,10 +151,11 @@ impl Trx {
             pages.old)
             self.old.images (write_at at root.0 old row.now marked) (P.contents pages.new)) }
         ensures noted { OnOk result (HasNoted at old self.old self.new) }
+        ensures session { self.new.session ≡ self.old.session }
         ensures sound { P.tells → (d : Database) (t : FileTable) (r : Row)
             → CanWrite (P.shape pages.old).pages (P.contents pages.old) self.old.images
-            (write_at at root.0 old row.now marked) d t r
-            → FitsLeaf (write_at at root.0 old row.now marked) t → IfErr result IsNoDamage }
+            (write_at at root.0 old row.now marked) d t r → IfErr result IsNoDamage }
+        ensures later { IfErr result NamesLater }
     {
         match write_pages(pages, root, at, &old, row, marked) {
             Ok(()) => {

@@ -7,4 +7,4 @@ pub returns-in-Err-clause-made : goal.returns-in-Err-clause-made
 returns-in-Err-clause-made g c = c.in-Err.ensures.made c.args.self.now.images
 
 pub returns-in-Err-clause-sound : goal.returns-in-Err-clause-sound
-returns-in-Err-clause-sound g c tells d t r can fits = c.in-Err.ensures.sound tells c.args.self.now.images d t r can fits
+returns-in-Err-clause-sound g c tells d t r can = c.in-Err.ensures.sound tells c.args.self.now.images d t r can
