@@ -2,6 +2,7 @@
 
 ghost use Rattle.std.specs.Prelude.{◌≡◌, IfErr, IfOk, OnOk};
 ghost use Rattle.isp_image.specs.Databases.{Database};
+ghost use Rattle.isp_image.specs.Faults.{NamesLaterOrLacks};
 ghost use Rattle.isp_page.specs.Steps.{IsNoDamageOrLacks};
 ghost use Rattle.isp_trx.specs.Transactions.{TrxState};
 ghost use Rattle.isp_tables.specs.Calls.{Keeps, Serves};
@@ -35,6 +36,7 @@ fn make_table<P: Pages>(
     ensures sound { P.tells → (trx : TrxState) (d : Database)
         → IsOpen P.Pages pages.old tables.old trx d → HasRoom P.Pages pages.old d
         → IfErr result IsNoDamageOrLacks }
+    ensures later { IfErr result NamesLaterOrLacks }
 {
     let name = name.copy(alloc)?;
     let schema = schema.copy(alloc)?;
@@ -68,6 +70,7 @@ fn make_or_refuse<P: Pages>(
         → IfOk result (CreatesOrFull P.Pages pages.new tables.new trx name.now schema.now d) }
     ensures sound { P.tells → (trx : TrxState) (d : Database)
         → IsOpen P.Pages pages.old tables.old trx d → IfErr result IsNoDamageOrLacks }
+    ensures later { IfErr result NamesLaterOrLacks }
 {
     if !has_room(pages)? {
         return Ok(false);
@@ -97,6 +100,7 @@ pub fn create<P: Pages>(
         → IfOk result (MakesOrFull P.Pages pages.new tables.new trx statement.now d) }
     ensures sound { P.tells → (trx : TrxState) (d : Database)
         → IsOpen P.Pages pages.old tables.old trx d → IfErr result IsNoDamageOrLacks }
+    ensures later { IfErr result NamesLaterOrLacks }
 {
     match statement {
         Statement::Create { name, schema } => make_or_refuse(alloc, pages, tables, name, schema),

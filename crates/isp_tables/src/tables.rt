@@ -6,6 +6,7 @@ ghost use Rattle.isp_catalog.specs.Catalogue.{HasTables};
 ghost use Rattle.isp_catalog.specs.declared.table.TableDef.{TableDef};
 ghost use Rattle.isp_page.specs.Calls.{ContinuesOrLacks};
 ghost use Rattle.isp_catalog.specs.Limits.{has_key};
+ghost use Rattle.isp_image.specs.Faults.{NamesLaterOrLacks};
 ghost use Rattle.isp_page.specs.Steps.{IsNoDamageOrLacks};
 ghost use Rattle.isp_page.specs.declared.fault.Fault.TheVariants.{Store};
 ghost use Rattle.isp_page.specs.declared.fault.StoreFault.TheVariants.{Damaged};
@@ -106,6 +107,7 @@ impl Tables {
         ensures sound { P.tells → (s : Space) (defs : List TableDef)
             → HasTables (P.shape pages.old).pages (P.contents pages.old) s defs
             → IfErr result IsNoDamageOrLacks }
+        ensures later { IfErr result NamesLaterOrLacks }
     {
         let defs = load(alloc, pages)?;
         let defs = keyed_or(defs)?;
