@@ -1,5 +1,5 @@
 -- What a row that is written leaves of an open file.
-use Rattle.std.proofs.Common.{◌≡◌, ℕ, suc, pred, ℤ, ◌+◌, ◌≤◌, Bool, true, false, List, ◌∷◌, length, slice_get, Option, Some, None, refl, sym, ◌∙◌, ap, subst, arith, inl, inr, if◌then◌else◌}
+use Rattle.std.proofs.Common.{◌≡◌, ℕ, suc, pred, ℤ, ◌+◌, ◌≤◌, Bool, true, false, List, ◌∷◌, length, slice_get, Option, Some, None, refl, sym, ◌∙◌, ap, subst, arith, if◌then◌else◌}
 use Rattle.std.specs.Prelude.{IfOk, Result, Ok, Err, nat_lt}
 use Rattle.std.specs.Option.{option_map}
 use Rattle.std.proofs.lemmas.Bool.Decides.{nat_tests}
@@ -18,12 +18,10 @@ use Rattle.isp_image.proofs.StepLaws.{reaches_more, reaches_self}
 use Rattle.isp_page.specs.declared.pages.Pages.{Ghosts}
 use Rattle.isp_plain.specs.Values.{key_of}
 use Rattle.isp_plain.specs.declared.value.Row.{Row}
-use Rattle.isp_plain.specs.RowBytes.{row_limit}
 use Rattle.isp_space.specs.Spaces.{has_room}
 use Rattle.isp_trx.specs.Transactions.{HasNoted, SameTrx, TrxState, old_image}
-use Rattle.isp_trx.specs.Writes.{CanWrite, Write, Wrote, can_take, change_of, finds_leaf, is_smaller, place_of, write_at}
+use Rattle.isp_trx.specs.Writes.{CanWrite, Write, Wrote, change_of, is_smaller, place_of, write_at}
 use Rattle.isp_trx.specs.declared.noted.RowKey.{RowKey}
-use Rattle.isp_trx.proofs.RoomLaws.{take_room}
 use Rattle.isp_trx_laws.specs.Written.{AreWritten}
 use Rattle.isp_trx_laws.proofs.MarkLaws.{write_adds_key}
 use Rattle.isp_work.specs.Works.{change_by}
@@ -38,7 +36,7 @@ false_true : {X : Type 0} → true ≡ false → X
 false_true is = cc
 
 pub can_write : (pages : ℕ) (contents : Contents) (images : List OldImage) (w : Write) (d : Database) (t : FileTable) (row : Row) → MayWrite pages contents images w d t row
-    → can_take pages w.at.key (length w.row) w.old t.tree d.space ≡ true → CanWrite pages contents images w d t row
+    → has_room pages d.space ≡ true → CanWrite pages contents images w d t row
 can_write pages contents images w d t row may room = record {
   kept = may.kept;
   noted = may.noted;
@@ -47,32 +45,9 @@ can_write pages contents images w d t row may room = record {
   root = may.root;
   stands = may.stands;
   spells = may.spells;
-  room = take_room pages w.at.key (length w.row) w.old t.tree d.space room;
+  room = room;
   unmarked = may.unmarked;
 }
-
-pub full_of : (pages : ℕ) (contents : Contents) (images : List OldImage) (w : Write) (d : Database) (t : FileTable) (row : Row) → MayWrite pages contents images w d t row → length w.row ≤ row_limit
-    → can_take pages w.at.key (length w.row) w.old t.tree d.space ≡ false → IsFull pages d
-full_of pages contents images w d t row may short room = by (has_room pages d.space) refl room
-  where
-    leaf : (b : Bool) → finds_leaf b w.at.key (length w.row) t.tree ≡ false → IsFull pages d
-    leaf true lacks = inr (record { place = place_of w.at; table = t; is_there = may.is_there; key = w.at.key; bytes = w.row; row = row; spells = may.spells; short = short; lacks = lacks })
-    leaf false lacks = false_true lacks
-
-    by : (b : Bool) → has_room pages d.space ≡ b → (if b then finds_leaf (is_smaller (length w.row) w.old) w.at.key (length w.row) t.tree else false) ≡ false → IsFull pages d
-    by true has lacks = leaf (is_smaller (length w.row) w.old) lacks
-    by false has lacks = inl has
-
--- whether there is room, as it is answered
-pub room_said : (pages : ℕ) (w : Write) (d : Database) (t : FileTable) (key : ℤ) (said there : Bool) → key ≡ w.at.key → said ≡ can_take pages key (length w.row) w.old t.tree d.space → said ≡ there
-    → can_take pages w.at.key (length w.row) w.old t.tree d.space ≡ there
-room_said pages w d t key said there same is answer = sym (ap (λ (k : ℤ). can_take pages k (length w.row) w.old t.tree d.space) same) ∙ sym is ∙ answer
-
--- the tree that the row is written on
-pub tree_written : (pages : ℕ) (contents : Contents) (images : List OldImage) (w : Write) (d : Database) (t : FileTable) (row : Row) → MayWrite pages contents images w d t row
-    → IsTree pages contents (suc (place_of w.at)) w.root t.tree
-tree_written pages contents images w d t row may =
-    subst (λ (root : ℕ). IsTree pages contents (suc (place_of w.at)) root t.tree) may.root (may.kept.each (place_of w.at) t may.is_there).tree
 
 -- ---- what is written
 

@@ -2,6 +2,7 @@
 
 ghost use Rattle.std.specs.Prelude.{◌≡◌, length, nat_lt, IfErr, OnOk};
 ghost use Rattle.isp_image.specs.Databases.{Database};
+ghost use Rattle.isp_image.specs.Faults.{NamesLaterOrLacks};
 ghost use Rattle.isp_page.specs.Steps.{IsNoDamageOrLacks};
 ghost use Rattle.isp_tables.specs.Calls.{Keeps, Serves};
 ghost use Rattle.isp_tables.specs.Opened.{IsOpen};
@@ -28,8 +29,10 @@ pub fn undo_newest<P: Pages>(
     ensures notes { OnOk result (length trx.new.images ≡ fewer base (length trx.old.images)) }
     ensures undone { P.tells → (d : Database) → IsOpen P.Pages pages.old tables.now trx.old d
         → OnOk result (UndidOrNot P.Pages pages.new tables.now trx.new (nat_lt base (length trx.old.images)) d) }
+    ensures session { trx.new.session ≡ trx.old.session }
     ensures sound { P.tells → (d : Database) → IsOpen P.Pages pages.old tables.now trx.old d
         → IfErr result IsNoDamageOrLacks }
+    ensures later { IfErr result NamesLaterOrLacks }
 {
     if base < trx.undo_count() {
         let _more = trx.undo_one(pages, tables.roots())?;

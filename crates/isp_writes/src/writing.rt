@@ -4,6 +4,7 @@ ghost use Rattle.std.specs.Prelude.{◌≡◌, ◌≤◌, ◌<◌, ℕ, List, tr
 ghost use Rattle.isp_catalog.specs.declared.table.TableDef.{TableDef};
 ghost use Rattle.isp_clustered.specs.declared.kept.Kept.{Kept};
 ghost use Rattle.isp_image.specs.Databases.{Database, FileTable};
+ghost use Rattle.isp_image.specs.Faults.{NamesLaterOrLacks};
 ghost use Rattle.isp_page.specs.Steps.{IsNoDamageOrLacks};
 ghost use Rattle.isp_plain.specs.declared.value.Row.{Row};
 ghost use Rattle.isp_trx.specs.Writes.{write_at};
@@ -19,7 +20,8 @@ use isp_clustered::{Kept, get};
 use isp_page::{Fault, Pages, StoreFault};
 use isp_plain::{Row, Schema};
 use isp_scan::{key_of, spell};
-use isp_trx::{RowKey, Trx, may_write};
+use isp_space::has_room;
+use isp_trx::{RowKey, Trx};
 use std::alloc::{AllocError, Global};
 
 // The most bytes that a row may have.
@@ -85,11 +87,13 @@ fn write_bytes<P: Pages>(
         (write_at at root.0 old bytes.now deletes) d t r
         → IfOk result (WroteOrFull (P.shape pages.old).pages (P.contents pages.old)
         (P.contents pages.new) trx.old trx.new (write_at at root.0 old bytes.now deletes) d t r) }
+    ensures session { trx.new.session ≡ trx.old.session }
     ensures sound { P.tells → (d : Database) (t : FileTable) (r : Row)
         → MayWrite (P.shape pages.old).pages (P.contents pages.old) trx.old.images
         (write_at at root.0 old bytes.now deletes) d t r → IfErr result IsNoDamageOrLacks }
+    ensures later { IfErr result NamesLaterOrLacks }
 {
-    if !may_write(pages, root, at.key, &old, bytes.len())? {
+    if !has_room(pages)? {
         return Ok(false);
     }
     trx.write_row(pages, root, at, old, bytes, deletes)?;
@@ -97,7 +101,7 @@ fn write_bytes<P: Pages>(
 }
 
 /// Writes a row at its key, or marks the row that stands there as deleted; what stood there is noted. False where the file has no
-/// room for the change, or the leaf none for the row: then nothing is changed.
+/// room for the change: then nothing is changed.
 ///
 /// # Errors
 ///
@@ -123,9 +127,11 @@ pub fn write_row<P: Pages>(
         → IsWritable deletes place row.now d
         → IfOk result (WritesOrFull P.Pages pages.new defs trx.new
         (change_by deletes place row.now) d) }
+    ensures session { trx.new.session ≡ trx.old.session }
     ensures sound { P.tells → (defs : List TableDef) (d : Database) (place : ℕ)
         → IsOpen P.Pages pages.old defs trx.old d → IsAtPlace place def.now d
         → IsWritable deletes place row.now d → IfErr result IsNoDamageOrLacks }
+    ensures later { IfErr result NamesLaterOrLacks }
 {
     trx.reserve(1)?;
     let key = key_of(row);
