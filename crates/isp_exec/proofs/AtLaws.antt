@@ -1,5 +1,5 @@
 -- A statement on a file goes on as its stage does: where each of its steps finds it.
-use Rattle.std.proofs.Common.{◌≡◌, ℕ, suc, ◌+◌, ◌-◌, ◌<◌, Bool, true, false, List, [], ◌∷◌, ◌++◌, length, map, slice_get, Some, refl, sym, ◌∙◌, ap, subst, arith, inl, length-append, if◌then◌else◌}
+use Rattle.std.proofs.Common.{◌≡◌, ℕ, suc, ◌+◌, ◌-◌, ◌<◌, Bool, true, false, List, [], ◌∷◌, ◌++◌, length, map, slice_get, Some, refl, sym, ◌∙◌, ap, subst, arith, length-append, if◌then◌else◌}
 use Rattle.std.specs.Prelude.{nat_lt}
 use Rattle.std.proofs.lemmas.Bool.Decides.{nat_tests}
 use Rattle.isp_catalog.specs.declared.table.TableDef.{TableDef}
@@ -183,7 +183,7 @@ module _ {S : Type 0} (g : Ghosts S) (old new : S) (defs defs_now : List TableDe
       (λ is. no_way is)
   created_by name schema false is full =
       let same = failed_same work FileFull (length trx.images) in
-      stays_at g old new defs defs_now trx trx start work (made_by work false (length trx.images)) at pages false full.0 (λ _. inl full.1)
+      stays_at g old new defs defs_now trx trx start work (made_by work false (length trx.images)) at pages false full.0 (λ _. full.1)
       (unmade_stage (tables_of at.db) at.noted work (length trx.images) (some_noted g old defs trx start work at) name schema phase is)
       same.statement same.base
       (failed_writable work FileFull (length trx.images) at.db)

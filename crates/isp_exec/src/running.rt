@@ -6,6 +6,7 @@ ghost use Rattle.isp_page.specs.Steps.{IsNoDamageOrLacks};
 ghost use Rattle.isp_tables.specs.Calls.{Keeps, Serves};
 ghost use Rattle.isp_exec.specs.Standing.{IsAt, IsFit};
 ghost use Rattle.isp_exec.specs.Starting.{place_by};
+ghost use Rattle.isp_image.specs.Faults.{NamesLaterOrLacks};
 ghost use Rattle.isp_work.specs.Starting.{start_of};
 ghost use Rattle.isp_work.specs.Works.{is_ready};
 
@@ -60,9 +61,11 @@ pub fn run<P: Pages>(
     ensures stands { P.tells → (start : Database)
         → IsAt P.Pages pages.old tables.old trx.old start work.old
         → OnOk result (IsAt P.Pages pages.new tables.new trx.new start work.new) }
+    ensures session { trx.new.session ≡ trx.old.session }
     ensures sound { P.tells → (start : Database)
         → IsAt P.Pages pages.old tables.old trx.old start work.old
         → IfErr result IsNoDamageOrLacks }
+    ensures later { IfErr result NamesLaterOrLacks }
 {
     'steps: while !work.is_ready() {
         step(alloc, pages, tables, trx, work)?;

@@ -16,6 +16,7 @@ ghost use Rattle.isp_work.specs.Finding.{found_in};
 ghost use Rattle.isp_exec.specs.Standing.{Falls, IsAt, IsChanging, IsFit, IsLooking, IsReading};
 ghost use Rattle.isp_work.specs.Works.{IsChangeOf, IsLookOf, IsNotOver, change_by, look_by, look_of, next_change, next_row};
 ghost use Rattle.isp_exec.specs.Changing.{ChangeNotes, ChangesOrFull, IsNextWritable, IsNotEnd};
+ghost use Rattle.isp_image.specs.Faults.{NamesLaterOrLacks};
 ghost use Rattle.isp_work.specs.declared.phase.Phase.TheVariants as phase;
 
 use isp_catalog::TableDef;
@@ -55,6 +56,7 @@ fn read_next<P: Pages>(
     ensures sound { P.tells → (def : TableDef) (t : FileTable)
         → slice_get tables.now work.now.place ≡ Some def → HasFileTable P.Pages pages.old def t
         → IfErr result IsNoDamageOrLacks }
+    ensures later { IfErr result NamesLaterOrLacks }
 {
     match tables.get(work.place()) {
         Some(def) => read_rows(alloc, pages, def, work.statement()),
@@ -79,6 +81,7 @@ fn look_at<P: Pages>(
         → IfOk result (λ looked. looked ≡ look_of row.now (shown t.rows)) }
     ensures sound { P.tells → (t : FileTable) → HasFileTable P.Pages pages.old def.now t
         → IfErr result IsNoDamageOrLacks }
+    ensures later { IfErr result NamesLaterOrLacks }
 {
     let key = key_of(row);
     if is_taken(alloc, pages, def, key)? {
@@ -107,6 +110,7 @@ fn look_next<P: Pages>(
     ensures sound { P.tells → (def : TableDef) (t : FileTable)
         → slice_get tables.now work.now.place ≡ Some def → HasFileTable P.Pages pages.old def t
         → IfErr result IsNoDamageOrLacks }
+    ensures later { IfErr result NamesLaterOrLacks }
 {
     match tables.get(work.place()) {
         Some(def) => match work.row() {
@@ -139,9 +143,11 @@ fn change_at<P: Pages>(
         → IsWritable deletes place row.now d
         → IfOk result (ChangesOrFull P.Pages pages.new defs trx.new (Some
         (change_by deletes place row.now)) d) }
+    ensures session { trx.new.session ≡ trx.old.session }
     ensures sound { P.tells → (defs : List TableDef) (d : Database) (place : ℕ)
         → IsOpen P.Pages pages.old defs trx.old d → IsAtPlace place def.now d
         → IsWritable deletes place row.now d → IfErr result IsNoDamageOrLacks }
+    ensures later { IfErr result NamesLaterOrLacks }
 {
     if write_row(alloc, pages, trx, def, row, deletes)? {
         Ok(Changed::Done)
@@ -168,8 +174,10 @@ fn change_next<P: Pages>(
         → IsNextWritable work.now d
         → IfOk result (ChangesOrFull P.Pages pages.new tables.now trx.new (next_change work.now)
         d) }
+    ensures session { trx.new.session ≡ trx.old.session }
     ensures sound { P.tells → (d : Database) → IsOpen P.Pages pages.old tables.now trx.old d
         → IsNextWritable work.now d → IfErr result IsNoDamageOrLacks }
+    ensures later { IfErr result NamesLaterOrLacks }
 {
     match tables.get(work.place()) {
         Some(def) => match work.row() {
@@ -202,6 +210,7 @@ fn step_creating<P: Pages>(
     ensures sound { P.tells → (start : Database)
         → IsAt P.Pages pages.old tables.old trx.now start work.old
         → IfErr result IsNoDamageOrLacks }
+    ensures later { IfErr result NamesLaterOrLacks }
 {
     let made = create(alloc, pages, tables, work.statement())?;
     work.make_on(made, trx.undo_count());
@@ -230,6 +239,7 @@ fn step_reading<P: Pages>(
     ensures sound { P.tells → (start : Database)
         → IsAt P.Pages pages.old tables.now trx.now start work.old
         → IfErr result IsNoDamageOrLacks }
+    ensures later { IfErr result NamesLaterOrLacks }
 {
     let found = read_next(alloc, pages, tables, work)?;
     work.take(found, trx.undo_count());
@@ -258,6 +268,7 @@ fn step_looking<P: Pages>(
     ensures sound { P.tells → (start : Database)
         → IsAt P.Pages pages.old tables.now trx.now start work.old
         → IfErr result IsNoDamageOrLacks }
+    ensures later { IfErr result NamesLaterOrLacks }
 {
     let looked = look_next(alloc, pages, tables, work)?;
     work.look_on(looked, trx.undo_count());
@@ -283,9 +294,11 @@ fn step_changing<P: Pages>(
     ensures stands { P.tells → (start : Database)
         → IsAt P.Pages pages.old tables.now trx.old start work.old
         → OnOk result (IsAt P.Pages pages.new tables.now trx.new start work.new) }
+    ensures session { trx.new.session ≡ trx.old.session }
     ensures sound { P.tells → (start : Database)
         → IsAt P.Pages pages.old tables.now trx.old start work.old
         → IfErr result IsNoDamageOrLacks }
+    ensures later { IfErr result NamesLaterOrLacks }
 {
     let changed = change_next(alloc, pages, tables, trx, work)?;
     work.change_on(changed, trx.undo_count());
@@ -310,9 +323,11 @@ fn step_undoing<P: Pages>(
     ensures stands { P.tells → (start : Database)
         → IsAt P.Pages pages.old tables.now trx.old start work.old
         → OnOk result (IsAt P.Pages pages.new tables.now trx.new start work.new) }
+    ensures session { trx.new.session ≡ trx.old.session }
     ensures sound { P.tells → (start : Database)
         → IsAt P.Pages pages.old tables.now trx.old start work.old
         → IfErr result IsNoDamageOrLacks }
+    ensures later { IfErr result NamesLaterOrLacks }
 {
     undo_newest(pages, tables, trx, work.base())?;
     work.fail(refusal, trx.undo_count());
@@ -342,9 +357,11 @@ pub fn step<P: Pages>(
     ensures stands { P.tells → (start : Database)
         → IsAt P.Pages pages.old tables.old trx.old start work.old
         → OnOk result (IsAt P.Pages pages.new tables.new trx.new start work.new) }
+    ensures session { trx.new.session ≡ trx.old.session }
     ensures sound { P.tells → (start : Database)
         → IsAt P.Pages pages.old tables.old trx.old start work.old
         → IfErr result IsNoDamageOrLacks }
+    ensures later { IfErr result NamesLaterOrLacks }
 {
     match work.phase() {
         Phase::Creating => step_creating(alloc, pages, tables, trx, work),

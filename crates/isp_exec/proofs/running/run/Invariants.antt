@@ -13,6 +13,7 @@ invariant-steps g l =
     × IsFit l.tables l.work
     × (g.P.Pages.tells → (start : Database) → IsAt g.P.Pages l.fn.pages l.fn.tables l.fn.trx start l.fn.work → IsAt g.P.Pages l.pages l.tables l.trx start l.work)
     × (l.work.statement ≡ l.fn.work.statement)
+    × (l.trx.session ≡ l.fn.trx.session)
 
 abbrev pub decreases-steps : goal.decreases-steps
 decreases-steps g l = height l.work (length l.trx.images)
