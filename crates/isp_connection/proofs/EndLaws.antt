@@ -42,36 +42,13 @@ use Rattle.isp_work.specs.declared.phase.Phase.{Phase as WorkPhase}
 use Rattle.isp_work.specs.declared.phase.Phase.TheVariants.{Creating, Reading, Looking, Changing, Undoing, Ready}
 use Rattle.isp_work.specs.declared.work.Work.{Work}
 use Rattle.isp_connection.specs.Answering.{Answered, Comes, CommitsAll, Executed, GoesBack, Settles, is_create, reply_or_full}
-use Rattle.isp_connection.specs.Connections.{ConnectionState, Holds, of_session, state_of}
+use Rattle.isp_connection.specs.Connections.{ConnectionState, Holds, state_of}
 use Rattle.isp_connection.specs.declared.connection.Connection.TheInside.{Inside}
-
--- ---- whose session a transaction is of
-
-module _ {S : Type 0} (g : Ghosts S) (now : S) (session : ℕ) (defs : List TableDef) (trx : TrxState) (d : Database) where
-  pub in_session : IsOpen g now defs trx d → IsOpen g now defs (of_session session trx) d
-  in_session opened = record { kept = opened.kept; defs_are = opened.defs_are; noted = opened.noted; written = opened.written }
-
-  pub in_any : IsOpen g now defs (of_session session trx) d → IsOpen g now defs trx d
-  in_any opened = record { kept = opened.kept; defs_are = opened.defs_are; noted = opened.noted; written = opened.written }
-
-  all_in_session : CommitsAll g now defs trx d → CommitsAll g now defs (of_session session trx) d
-  all_in_session k = record {
-    after = k.after;
-    opened = record { kept = k.opened.kept; defs_are = k.opened.defs_are; noted = k.opened.noted; written = k.opened.written };
-    none = k.none;
-    same = k.same;
-    committed_are = k.committed_are;
-    reaches = k.reaches;
-  }
-
-  pub settles_in_session : (inside : Bool) → Settles g now defs trx inside d → Settles g now defs (of_session session trx) inside d
-  settles_in_session true opened = in_session opened
-  settles_in_session false k = all_in_session k
 
 -- a connection as a value, taken apart
 module _ {S : Type 0} (g : Ghosts S) (now : S) (i : Inside) (c : ConnectionState) (is : state_of i ≡ c) where
   pub open_inside : (d : Database) → IsOpen g now c.defs c.trx d → IsOpen g now i.tables i.trx d
-  open_inside d opened = in_any g now i.session i.tables i.trx d (subst (λ (s : ConnectionState). IsOpen g now s.defs s.trx d) (sym is) opened)
+  open_inside d opened = subst (λ (s : ConnectionState). IsOpen g now s.defs s.trx d) (sym is) opened
 
   pub hold_inside : (state : State) (d : Database) → Holds g now c state d → Holds g now (state_of i) state d
   hold_inside state d h = subst (λ (s : ConnectionState). Holds g now s state d) (sym is) h
@@ -88,7 +65,7 @@ module _ {S : Type 0} (g : Ghosts S) (now : S) (i : Inside) (c : ConnectionState
 -- ---- a connection is opened
 
 pub opens : {S : Type 0} (g : Ghosts S) (old new : S) (session : ℕ) (defs : List TableDef) (trx : TrxState) (d : Database) → (g.shape new).pages ≡ (g.shape old).pages → g.contents new ≡ g.contents old → KeptFile (g.shape old).pages (g.contents old) d
-    → d.images ≡ [] → HasNoMarked d → defs ≡ defs_in d → IsNew session trx → Holds g new (record { inside = false; defs = defs; trx = of_session session trx }) (settled (tables_of d)) d
+    → d.images ≡ [] → HasNoMarked d → defs ≡ defs_in d → IsNew session trx → Holds g new (record { inside = false; defs = defs; trx = trx }) (settled (tables_of d)) d
 opens g old new session defs trx d pages contents kept none tidy are fresh = record {
   opened = record {
     kept = subst (λ (n : ℕ). KeptFile n (g.contents new) d) (sym pages) (subst (λ (c : Contents). KeptFile (g.shape old).pages c d) (sym contents) kept);
@@ -329,11 +306,11 @@ module _ {S : Type 0} (g : Ghosts S) (old new : S) (defs : List TableDef) (trx t
         reaches = reaches_more n d d k.after (reaches_self n d) k.step (g.contents new, kept_now);
       }
 
-pub comes_settled : {S : Type 0} (g : Ghosts S) (now : S) (session : ℕ) (defs : List TableDef) (trx : TrxState) (d : Database) → CommitsAll g now defs trx d → Comes g now (record { inside = false; defs = defs; trx = of_session session trx }) (settled (tables_of d)) d
-comes_settled g now session defs trx d k = record {
+pub comes_settled : {S : Type 0} (g : Ghosts S) (now : S) (defs : List TableDef) (trx : TrxState) (d : Database) → CommitsAll g now defs trx d → Comes g now (record { inside = false; defs = defs; trx = trx }) (settled (tables_of d)) d
+comes_settled g now defs trx d k = record {
   after = k.after;
   holds = record {
-    opened = in_session g now session defs trx k.after k.opened;
+    opened = k.opened;
     outside = λ _. k.none;
     setup = λ _. refl;
     inside = refl;

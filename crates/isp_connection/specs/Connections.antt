@@ -1,6 +1,6 @@
 -- A session's connection to a file: whether a transaction is open, the definitions of the file's tables, and what the transaction
 -- noted and wrote. `Holds` says which database it is open on, and where the run stands with it.
-use Rattle.std.specs.Prelude.{◌≡◌, ℕ, Bool, false, List, []}
+use Rattle.std.specs.Prelude.{◌≡◌, Bool, false, List, []}
 use Rattle.isp_catalog.specs.declared.table.TableDef.{TableDef}
 use Rattle.isp_tables.specs.Opened.{IsOpen}
 use Rattle.isp_image.specs.Databases.{Database, committed, tables_of}
@@ -14,12 +14,8 @@ pub record ConnectionState : Type 0 where
   pub defs : List TableDef
   pub trx : TrxState
 
--- the transaction, as that session's
-abbrev pub of_session : ℕ → TrxState → TrxState
-of_session session trx = record trx { session = session }
-
 abbrev pub state_of : Inside → ConnectionState
-state_of c = record { inside = c.inside; defs = c.tables; trx = of_session c.session c.trx }
+state_of c = record { inside = c.inside; defs = c.tables; trx = c.trx }
 
 -- The store has the database, which the connection has open. Outside of a transaction no old row is noted. Its tables are the present
 -- ones, and with the old rows put back the committed ones.

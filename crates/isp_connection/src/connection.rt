@@ -14,6 +14,7 @@ ghost use Rattle.isp_serial.specs.Serial.{place_at};
 ghost use Rattle.isp_connection.specs.Answering.{Answered, Executed, MayCome, meant};
 ghost use Rattle.isp_exec.specs.Starting.{Suits};
 ghost use Rattle.isp_connection.specs.Connections.{Holds};
+ghost use Rattle.isp_image.specs.Faults.{NamesLaterOrLacks};
 
 use crate::ending::settle;
 use isp_base::Bytes;
@@ -31,7 +32,6 @@ use std::marker::Model;
 #[derive(Drop)]
 pub struct Connection {
     pub(crate) alloc: Global,
-    pub(crate) session: u32,
     pub(crate) tables: Tables,
     pub(crate) trx: Trx,
     pub(crate) inside: bool,
@@ -78,12 +78,12 @@ impl Connection {
         ensures sound { P.tells → (d : Database)
             → KeptFile (P.shape pages.old).pages (P.contents pages.old) d
             → IfErr result IsNoDamageOrLacks }
+        ensures later { IfErr result NamesLaterOrLacks }
     {
         let tables = Tables::load(alloc, pages)?;
         let trx = Trx::begin(alloc, session);
         Ok(Connection {
             alloc,
-            session,
             tables,
             trx,
             inside: false,
@@ -103,6 +103,7 @@ impl Connection {
         ensures sound { P.tells → (d : Database) (state : State)
             → Holds P.Pages pages.old self.old state d → MayCome self.old.trx.session state statement
             → IfErr result IsNoDamageOrLacks }
+        ensures later { IfErr result NamesLaterOrLacks }
     {
         let alloc = self.alloc;
         let mut work = start(alloc, &self.tables, &self.trx, statement);
@@ -124,6 +125,7 @@ impl Connection {
         ensures sound { P.tells → (d : Database) (state : State)
             → Holds P.Pages pages.old self.old state d → MayCome self.old.trx.session state statement
             → IfErr result IsNoDamageOrLacks }
+        ensures later { IfErr result NamesLaterOrLacks }
     {
         match &statement {
             Statement::Begin => {
@@ -151,7 +153,7 @@ impl Connection {
     pub fn session(&self) -> u32
         ensures { result ≡ self.now.trx.session }
     {
-        self.session
+        self.trx.session()
     }
 
     // What the text means, where the session stands.
@@ -159,7 +161,7 @@ impl Connection {
         ensures { IfOk result (λ s. s ≡ meaning (definitions_of self.now.defs)
             (place_at self.now.trx.session self.now.inside) text.now) }
     {
-        let place = place_of(self.session, self.inside);
+        let place = place_of(self.trx.session(), self.inside);
         meaning_of(self.alloc, self.tables.defs(), place, text.as_slice())
     }
 
@@ -179,6 +181,7 @@ impl Connection {
             (meant self.old.trx.session text.now state) d) }
         ensures sound { P.tells → (d : Database) (state : State)
             → Holds P.Pages pages.old self.old state d → IfErr result IsNoDamageOrLacks }
+        ensures later { IfErr result NamesLaterOrLacks }
     {
         let statement = self.statement_of(text)?;
         let reply = self.obey(pages, statement)?;

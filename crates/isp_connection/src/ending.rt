@@ -9,6 +9,7 @@ ghost use Rattle.isp_serial.specs.Alone.{State, rolled_back, settled};
 ghost use Rattle.isp_connection.specs.Answering.{Comes, ComesTidy, GoesBack, Settles};
 ghost use Rattle.isp_tables.specs.Opened.{IsOpen};
 ghost use Rattle.isp_connection.specs.Connections.{Holds};
+ghost use Rattle.isp_image.specs.Faults.{NamesLaterOrLacks};
 
 use crate::connection::Connection;
 use isp_page::{Fault, Pages};
@@ -24,8 +25,10 @@ fn undo_all<P: Pages>(pages: &mut P, tables: &Tables, trx: &mut Trx) -> Result<(
     ensures serves { OnOk result (Serves P.Pages pages.new tables.now) }
     ensures undone { P.tells → (d : Database) → IsOpen P.Pages pages.old tables.now trx.old d
         → OnOk result (GoesBack P.Pages pages.new tables.now trx.new d) }
+    ensures session { trx.new.session ≡ trx.old.session }
     ensures sound { P.tells → (d : Database) → IsOpen P.Pages pages.old tables.now trx.old d
         → IfErr result IsNoDamageOrLacks }
+    ensures later { IfErr result NamesLaterOrLacks }
 {
     'undoing: while 0 < trx.undo_count() {
         undo_newest(pages, tables, trx, 0)?;
@@ -84,6 +87,7 @@ impl Connection {
             → OnOk result (Comes P.Pages pages.new self.new (rolled_back state) d) }
         ensures sound { P.tells → (d : Database) (state : State)
             → Holds P.Pages pages.old self.old state d → IfErr result IsNoDamageOrLacks }
+        ensures later { IfErr result NamesLaterOrLacks }
     {
         undo_all(pages, &self.tables, &mut self.trx)?;
         self.commit(pages)?;
@@ -105,11 +109,12 @@ impl Connection {
             → OnOk result (ComesTidy P.Pages pages.new self.new state d) }
         ensures sound { P.tells → (d : Database) (state : State)
             → Holds P.Pages pages.old self.old state d → IfErr result IsNoDamageOrLacks }
+        ensures later { IfErr result NamesLaterOrLacks }
     {
         if self.inside {
             return Ok(());
         }
-        let fresh = Trx::begin(self.alloc, self.session);
+        let fresh = Trx::begin(self.alloc, self.trx.session());
         let ended = mem::replace(&mut self.trx, fresh);
         let keys = rising(ended.end());
         drop_marked_rows(self.alloc, pages, self.tables.roots(), keys.as_slice())?;

@@ -22,6 +22,7 @@ undoing-preserved g c =
           let some = c.undoing.invariant.2 tells d opened in
           undid_more g.P.Pages c.undoing.pages new tables before c.undo_newest.new.trx d some (ap (λ (s : FileShape). s.pages) e.kept.same_shape)
           (subst (λ (b : Bool). UndidOrNot g.P.Pages new tables c.undo_newest.new.trx b some.after) some_left (e.undone tells some.after some.opened)),
+      e.session ∙ c.undoing.invariant.3,
     )
 
 pub returns-clause-undone : goal.returns-clause-undone

@@ -1,4 +1,4 @@
-use Rattle.std.proofs.Common.{length}
+use Rattle.std.proofs.Common.{◌≡◌, length}
 use Rattle.std.specs.Prelude.{⊤}
 use Rattle.isp_image.specs.Databases.{Database}
 use Rattle.isp_tables.specs.Calls.{Keeps, Serves}
@@ -12,6 +12,7 @@ invariant-undoing g l =
     Keeps {T = ⊤} g.P.Pages l.fn.pages l.pages so_far
     × Serves g.P.Pages l.pages l.fn.tables
     × (g.P.Pages.tells → (d : Database) → IsOpen g.P.Pages l.fn.pages l.fn.tables l.fn.trx d → UndidSome g.P.Pages l.pages l.fn.tables l.trx d)
+    × (l.trx.session ≡ l.fn.trx.session)
 
 abbrev pub decreases-undoing : goal.decreases-undoing
 decreases-undoing g l = length l.trx.images

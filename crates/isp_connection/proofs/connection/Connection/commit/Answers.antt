@@ -4,4 +4,4 @@ use Rattle.isp_connection.proofs.connection.Connection.commit.Goals as goal
 pub returns-clause-done : goal.returns-clause-done
 returns-clause-done g c tells d opened =
     let i = c.self.inside in
-    comes_settled g.P.Pages c.settle.new.pages i.session i.tables c.settle.new.trx d (c.in_ok-settle.ensures.settled tells i.tables d (open_inside g.P.Pages c.args.pages.now i c.args.self.now c.self.view_is d opened))
+    comes_settled g.P.Pages c.settle.new.pages i.tables c.settle.new.trx d (c.in_ok-settle.ensures.settled tells i.tables d (open_inside g.P.Pages c.args.pages.now i c.args.self.now c.self.view_is d opened))

@@ -5,8 +5,8 @@ use Rattle.isp_page.specs.State.{FileShape}
 use Rattle.isp_plain.specs.declared.statement.Reply.{Reply}
 use Rattle.isp_work.specs.declared.work.Work.{Work}
 use Rattle.isp_connection.specs.Answering.{Executed}
-use Rattle.isp_connection.specs.Connections.{ConnectionState, of_session}
-use Rattle.isp_connection.proofs.EndLaws.{at_rest, executed, fit_inside, hold_inside, settles_in_session, start_inside}
+use Rattle.isp_connection.specs.Connections.{ConnectionState}
+use Rattle.isp_connection.proofs.EndLaws.{at_rest, executed, fit_inside, hold_inside, start_inside}
 use Rattle.isp_connection.proofs.connection.Connection.execute.Goals as goal
 
 pub run-requires-clause-fit : goal.run-requires-clause-fit
@@ -27,11 +27,11 @@ returns-clause-executed g c tells d state h may =
     let r = c.in_ok-run.ensures in
     let e = c.in_ok-settle.ensures in
     let own = hold_inside g.P.Pages c.args.pages.now i c.args.self.now c.self.view_is state d h in
-    let now : ConnectionState = record { inside = i.inside; defs = c.run.new.tables; trx = of_session i.session c.settle.new.trx } in
+    let now : ConnectionState = record { inside = i.inside; defs = c.run.new.tables; trx = c.settle.new.trx } in
     let ran = r.stands tells d at in
     let stated : c.run.new.work.statement ≡ s = r.statement ∙ ap (λ (w : Work). w.statement) c.start-work.ensures ∙ start_statement s (length i.trx.images) (place_by i.tables s) in
     let done =
-    executed g.P.Pages c.run.new.pages c.settle.new.pages now c.run.new.trx state d c.run.new.work ran r.ready s stated own.present (λ outside. at_rest g.P.Pages c.args.pages.now c.args.self.now state d h outside) own.committed_are own.setup own.inside
+    executed g.P.Pages c.run.new.pages c.settle.new.pages now c.run.new.trx state d c.run.new.work ran r.ready s stated own.present (λ outside. at_rest g.P.Pages c.args.pages.now c.args.self.now state d h outside) own.committed_are (λ zero. own.setup (sym (e.session ∙ r.session) ∙ zero)) own.inside
     (ap (λ (shape : FileShape). shape.pages) e.kept.same_shape) i.inside (sym own.inside) (λ inside. may.outside (sym own.inside ∙ inside))
-    (settles_in_session g.P.Pages c.settle.new.pages i.session c.run.new.tables c.settle.new.trx ran.db i.inside (e.settled tells c.run.new.tables ran.db ran.opened)) in
+    (e.settled tells c.run.new.tables ran.db ran.opened) in
     subst (λ (reply : Reply). Executed g.P.Pages c.settle.new.pages now state s d reply) (sym c.into_reply.ensures) done

@@ -3,7 +3,7 @@ use Rattle.isp_page.specs.State.{FileShape}
 use Rattle.isp_tables.specs.Calls.{AreInside}
 use Rattle.isp_tables.proofs.RootLaws.{are_within}
 use Rattle.isp_trx.specs.Transactions.{TrxState}
-use Rattle.isp_connection.specs.Connections.{ConnectionState, of_session, state_of}
+use Rattle.isp_connection.specs.Connections.{ConnectionState, state_of}
 use Rattle.isp_connection.proofs.EndLaws.{hold_inside}
 use Rattle.isp_connection.proofs.SweepLaws.{can_sweep, ended_keys, swept_tidy}
 use Rattle.isp_connection.proofs.connection.Connection.sweep.Goals as goal
@@ -30,6 +30,6 @@ returns-clause-swept g c tells d state holds =
     let fresh = c.replace-ended.new.dest in
     let after = c.replace-ended.ensures.after in
     let e = c.in_ok-drop_marked_rows.ensures in
-    swept_tidy g.P.Pages c.args.pages.now c.drop_marked_rows.new.pages (state_of i) (record { inside = i.inside; defs = i.tables; trx = of_session i.session fresh }) state d c.roots.result.now c.as_slice.result.now h c.if-self.false c.roots.ensures same
+    swept_tidy g.P.Pages c.args.pages.now c.drop_marked_rows.new.pages (state_of i) (record { inside = i.inside; defs = i.tables; trx = fresh }) state d c.roots.result.now c.as_slice.result.now h c.if-self.false c.roots.ensures same
     (e.swept tells) (ap (λ (s : FileShape). s.pages) e.made.keeps.same_shape) refl refl
-    (record { session_is = refl; images = ap (λ (trx : TrxState). trx.images) after ∙ c.begin-fresh.ensures.images; keys = ap (λ (trx : TrxState). trx.keys) after ∙ c.begin-fresh.ensures.keys })
+    (record { session_is = ap (λ (trx : TrxState). trx.session) after ∙ c.begin-fresh.ensures.session_is ∙ c.session.ensures; images = ap (λ (trx : TrxState). trx.images) after ∙ c.begin-fresh.ensures.images; keys = ap (λ (trx : TrxState). trx.keys) after ∙ c.begin-fresh.ensures.keys })
