@@ -169,10 +169,10 @@ pub(crate) fn push_and_finish(alloc: Global, count: u64) -> bool {
 
 INVARIANT = """use Rattle.std.proofs.Common.{◌≡◌, true}
 use Rattle.isp_page.specs.State.{none_begun}
-use Rattle.undo_calls.proofs.calls.%(function)s.Given as goal
+use Rattle.undo_calls.proofs.calls.%s.Given as goal
 
-abbrev pub invariant-loop-%(loop)s : goal.invariant-loop-%(loop)s
-invariant-loop-%(loop)s g l = record {
+abbrev pub invariant-loop-key : goal.invariant-loop-key
+invariant-loop-key g l = record {
   usable : g.P.Pages.usable l.pages ≡ true;
   none : g.P.Pages.mini l.pages ≡ none_begun;
 }
@@ -193,8 +193,8 @@ def build(folder):
     crate = os.path.join(folder, "crates", "undo_calls")
     write(os.path.join(crate, "src", "main.rt"), MAIN)
     write(os.path.join(crate, "src", "calls.rt"), CALLS)
-    for function, loop in (("push_all", "key"), ("pop_all", "_key")):
-        text = INVARIANT % {"function": function, "loop": loop}
+    for function in ("push_all", "pop_all"):
+        text = INVARIANT % function
         write(os.path.join(crate, "proofs", "calls", function, "Invariants.antt"), text)
     built = subprocess.run(os.environ.get("RT", "rt").split() + ["run"], cwd=crate, stdin=subprocess.DEVNULL)
     if built.returncode != 0:
