@@ -1,4 +1,5 @@
 mod ChangeLaws
 mod KeptLaws
+mod PutLaws
 pub mod TreeLaws
 mod WholeLaws

@@ -18,6 +18,8 @@ use Rattle.isp_clustered.specs.Puts.{CanPut, IsPut}
 use Rattle.isp_clustered.specs.Trees.{IsEdited, IsTree, Tree, one_leaf}
 use Rattle.isp_levels.specs.Walks.{NamesAny}
 use Rattle.isp_cells.specs.LeafPages.{SaysTree}
+pub use Rattle.isp_halving.specs.Calls.{HasSpace, NamesTreeOrSpace}
+pub use Rattle.isp_growing.specs.Calls.{ChangesTree}
 use Rattle.isp_clustered.specs.declared.kept.Leaf.{Leaf}
 
 -- the contents now have an empty tree of that table on the page that was free next, and other pages than it and page 0 are as before
@@ -27,12 +29,9 @@ pub record IsCreated (pages : ℕ) (old new : Contents) (table : ℕ) (s : Space
   pub is_space : IsSpace pages new (taken s)
   pub others : KeepsPages (λ other. is_page 0 other || is_page page other) old new
 
--- what stands in a store of pages: a tree, the space; whether a row may be put
+-- what stands in a store of pages: a tree; whether a row may be put
 abbrev pub HasTree : {S : Type 0} → Ghosts S → S → ℕ → ℕ → Tree → Type 0
 HasTree g now table root tree = IsTree (g.shape now).pages (g.contents now) table root tree
-
-abbrev pub HasSpace : {S : Type 0} → Ghosts S → S → Space → Type 0
-HasSpace g now s = IsSpace (g.shape now).pages (g.contents now) s
 
 abbrev pub MayPut : {S : Type 0} → Ghosts S → S → ℕ → ℕ → ℤ → ℕ → Tree → Space → Type 0
 MayPut g now table root key size tree s = CanPut (g.shape now).pages (g.contents now) table root key size tree s
@@ -47,13 +46,7 @@ Puts g old new table root key row tree s = IsPut (g.shape new).pages (g.contents
 abbrev pub Creates : {S : Type 0} → Ghosts S → S → S → ℕ → Space → ℕ → Type 0
 Creates g old new table s page = IsCreated (g.shape new).pages (g.contents old) (g.contents new) table s page
 
--- a damaged page that is named is one of the file and breaks the rule of clustered trees, or one of the space
-abbrev pub NamesTreeOrSpace : ℕ → StoreFault → Type 0
-NamesTreeOrSpace pages Disk = ⊤
-NamesTreeOrSpace pages Print = ⊤
-NamesTreeOrSpace pages (Damaged page rule) = ((page < pages) × (rule ≡ 7)) ⊎ NamesSpace (Damaged page rule)
-
--- the same of one that may lack memory
+-- a damaged page that is named is one of the file and breaks the rule of clustered trees; of a call that may lack memory
 abbrev pub NamesAnyOrLacks : ℕ → Fault → Type 0
 NamesAnyOrLacks pages (Store Disk) = ⊤
 NamesAnyOrLacks pages (Store Print) = ⊤
@@ -76,13 +69,6 @@ pub record ReadsTreeOrLacks {S T : Type 0} (g : Ghosts S) (root : ℕ) (old new 
   pub mini : OnOk result (g.mini new ≡ g.mini old)
   pub says : g.tells → OnOk result (SaysTree root (header_of (page_of (g.contents old) root)))
   pub names : IfErr result (NamesAnyOrLacks (g.shape old).pages)
-
--- a call that changes at most so many pages of a tree on that page
-pub record ChangesTree {S T : Type 0} (g : Ghosts S) (root : ℕ) (Names : StoreFault → Type 0) (most : ℕ) (old new : S) (result : Result T StoreFault) : Type 0 where
-  pub kept : Continues g old new result
-  pub changes : OnOk result (ChangesBy g most old new)
-  pub says : g.tells → OnOk result (SaysTree root (header_of (page_of (g.contents old) root)))
-  pub names : IfErr result Names
 
 -- a call that makes a tree on a page that it takes
 pub record CreatesTree {S : Type 0} (g : Ghosts S) (old new : S) (result : Result PageNo StoreFault) : Type 0 where

@@ -11,20 +11,8 @@ use Rattle.isp_cells.specs.Rows.{may_put, with_put}
 use Rattle.isp_clustered.specs.Trees.{IsTree, Tree, pages_of, rows_of}
 use Rattle.isp_levels.specs.Dividing.{with_row_put}
 use Rattle.isp_levels.specs.Levels.{TreeLeaf}
-
--- the space once so many pages are taken one after another, and these pages
-abbrev pub taken_times : ℕ → Space → Space
-taken_times zero s = s
-taken_times (suc n) s = taken_times n (taken s)
-
-abbrev pub takes : ℕ → Space → List ℕ
-takes zero s = []
-takes (suc n) s = next_free s ∷ takes n (taken s)
-
--- a lone leaf may move to another page
-abbrev pub moved_leaves : Option ℕ → List TreeLeaf → List TreeLeaf
-moved_leaves (Some page) (leaf ∷ []) = record leaf { page = page } ∷ []
-moved_leaves moved leaves = leaves
+pub use Rattle.isp_halving.specs.Calls.{IsApart}
+pub use Rattle.isp_growing.specs.Taking.{moved_leaves, taken_times, takes}
 
 -- The second tree has this row at that key, unmarked and in a slot of its length, and otherwise the rows of the first. All leaves
 -- stand but the one that has the key's place: it is edited, or divided, with the right part on a page directly behind it. A lone
@@ -43,10 +31,6 @@ pub record PutIn (key : ℤ) (row : List ℕ) (before after : Tree) : Type 0 whe
 pub record IsBeside (tree : Tree) (s : Space) : Type 0 where
   pub once : (page : ℕ) → times page (pages_of tree ++ space_pages s) ≤ 1
   pub used : All (λ page. page < s.fresh) (pages_of tree)
-
--- the page isn't one of the space
-abbrev pub IsApart : ℕ → Space → Type 0
-IsApart page s = All (λ other. is_page page other ≡ false) (space_pages s)
 
 -- how many pages a put may change at most, and how many have to be free for it
 abbrev pub most_put : ℕ

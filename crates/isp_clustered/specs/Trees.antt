@@ -1,12 +1,12 @@
 -- A clustered tree: its leaves in the order of their keys, and the pages above them.
-use Rattle.std.specs.Prelude.{◌≡◌, ℕ, ◌==◌, ℤ, Bool, false, List, [], ◌∷◌, ◌++◌, Option, Some, None, map, if◌then◌else◌}
+use Rattle.std.specs.Prelude.{◌≡◌, ℕ, ◌==◌, ℤ, Bool, List, [], ◌∷◌, ◌++◌, Option, Some, None, map, if◌then◌else◌}
 use Rattle.std.specs.List.{flat_map}
 use Rattle.isp_format.specs.Leaf.{Stored}
 use Rattle.isp_format.specs.Ranges.{Contents}
 use Rattle.isp_page.specs.State.{is_among}
 use Rattle.isp_page.specs.Touched.{KeepsPages}
-use Rattle.isp_cells.specs.Rows.{can_drop, can_rewrite, has_key, is_fitting}
-use Rattle.isp_levels.specs.Levels.{InnerNode, IsTreeOf, level_pages, pick_leaf}
+use Rattle.isp_cells.specs.Rows.{can_drop, can_rewrite, has_key}
+use Rattle.isp_levels.specs.Levels.{InnerNode, IsTreeOf, level_pages}
 pub use Rattle.isp_levels.specs.Levels.{TreeLeaf, least_key}
 pub use Rattle.isp_levels.specs.Dividing.{on_leaf}
 

@@ -1,5 +1,5 @@
 //! Clustered trees: the rows of a table, found by key. A row stands in a slot that may be longer than it, so that it can be
-//! rewritten where it stands. For now a tree is one leaf.
+//! rewritten where it stands.
 //!
 //! - `kept`: what calls answer of a row.
 //! - `leaves`: whole leaves, one after another.

@@ -1,5 +1,5 @@
 //! The calls that change a tree.
-ghost use Rattle.std.specs.Prelude.{◌≡◌, ◌+◌, ◌^◌, ◌<◌, ◌≤◌, [], ◌∷◌, ℕ, true, false, is_none, length, IfErr, IfOk, IfSome, OnOk};
+ghost use Rattle.std.specs.Prelude.{◌≡◌, ◌+◌, ◌^◌, ◌<◌, ◌≤◌, [], ◌∷◌, ℕ, Some, true, false, is_none, length, IfErr, IfOk, IfSome, OnOk};
 ghost use Rattle.isp_format.specs.Header.{header_of};
 ghost use Rattle.isp_format.specs.Ranges.{page_of};
 ghost use Rattle.isp_format.specs.HeadValues.{header_in};
@@ -9,13 +9,16 @@ ghost use Rattle.isp_levels.specs.Walks.{NamesAny};
 ghost use Rattle.isp_clustered.specs.Calls.{ChangesTree, Creates, CreatesTree, Edits, HasSpace, HasTree, MayPut, NamesTreeOrSpace, Puts};
 ghost use Rattle.isp_space.specs.Changes.{ChangesPages, MayChange};
 ghost use Rattle.isp_clustered.specs.Puts.{IsApart, most_put};
-ghost use Rattle.isp_cells.specs.Rows.{marked_at, with_row, without};
-ghost use Rattle.isp_clustered.specs.Trees.{Tree, fits, has, has_marked, holds};
+ghost use Rattle.isp_cells.specs.Rows.{marked_at, with_put, with_row, without};
+ghost use Rattle.isp_clustered.specs.Trees.{Tree, has, has_marked, holds};
+ghost use Rattle.isp_levels.specs.Dividing.{is_divided};
+ghost use Rattle.isp_levels.specs.Levels.{TreeLeaf, pick_leaf};
 ghost use Rattle.isp_cells.specs.LeafPages.{leaf_header};
 
 use crate::reading::find_leaf;
 use isp_cells::{drop_in, mark_in, put_in, rewrite_in};
 use isp_format::{CONTENT_PLACE, Head, LEAF_KIND, Page, PageNo, clustered_owner, set_head};
+use isp_growing::put_divided;
 use isp_levels::broken;
 use isp_page::{Pages, StoreFault, replace};
 use isp_space::{add_bytes, take_page};
@@ -69,13 +72,39 @@ fn count_and_replace<P: Pages>(
     Ok(())
 }
 
-/// Puts a row, unmarked and in a slot of its length. Its key isn't there, or has a smaller slot, whose row goes. For now the
-/// leaf has to have room for it.
+// Puts a row that the leaf of its key has no room for, and counts its bytes.
+fn grow_and_count<P: Pages>(
+    pages: &mut P,
+    root: PageNo,
+    key: i64,
+    row: &[u8],
+) -> Result<(), StoreFault>
+    requires can { MayChange P.Pages most_put pages.old }
+    requires page { root.0 < (P.shape pages.old).pages }
+    requires row { length row.now ≤ 1000 }
+    ensures changes { ChangesTree P.Pages root.0 (NamesTreeOrSpace (P.shape pages.old).pages) most_put
+        pages.old pages.new result }
+    ensures put { P.tells → (table : ℕ) (tree : Tree) (s : Space) (leaf : TreeLeaf)
+        → MayPut P.Pages pages.old table root.0 key (length row.now) tree s
+        → pick_leaf key tree.leaves ≡ Some leaf → is_divided (with_put key row.now leaf.rows) ≡ true
+        → OnOk result (Puts P.Pages pages.old pages.new table root.0 key row.now tree s) }
+    ensures sound { P.tells → (table : ℕ) (tree : Tree) (s : Space) (leaf : TreeLeaf)
+        → MayPut P.Pages pages.old table root.0 key (length row.now) tree s
+        → pick_leaf key tree.leaves ≡ Some leaf → is_divided (with_put key row.now leaf.rows) ≡ true
+        → IfErr result IsNoDamage }
+{
+    put_divided(pages, root, key, row)?;
+    add_bytes(pages, (13 + row.len()) as u64)?;
+    Ok(())
+}
+
+/// Puts a row, unmarked and in a slot of its length. Its key isn't there, or has a smaller slot, whose row goes. Where its leaf has
+/// no room for it, the tree grows.
 ///
 /// # Errors
 ///
-/// Disk; Damaged, with the page that is read and rule 7, where that is no page of a tree or has no room, or with page 0 and rule 4,
-/// where that says no space.
+/// Disk; Damaged, with a page that is read and rule 7, where that is no page of a tree, or as of `take_page` and `add_bytes` of
+/// isp_space.
 pub fn put<P: Pages>(pages: &mut P, root: PageNo, key: i64, row: &[u8]) -> Result<(), StoreFault>
     requires can { MayChange P.Pages most_put pages.old }
     requires page { root.0 < (P.shape pages.old).pages }
@@ -86,8 +115,7 @@ pub fn put<P: Pages>(pages: &mut P, root: PageNo, key: i64, row: &[u8]) -> Resul
         → MayPut P.Pages pages.old table root.0 key (length row.now) tree s
         → OnOk result (Puts P.Pages pages.old pages.new table root.0 key row.now tree s) }
     ensures sound { P.tells → (table : ℕ) (tree : Tree) (s : Space)
-        → MayPut P.Pages pages.old table root.0 key (length row.now) tree s
-        → fits key (length row.now) tree ≡ true → IfErr result IsNoDamage }
+        → MayPut P.Pages pages.old table root.0 key (length row.now) tree s → IfErr result IsNoDamage }
 {
     let mut page = Page::zeros();
     let leaf = find_leaf(pages, root, key, &mut page)?;
@@ -96,7 +124,10 @@ pub fn put<P: Pages>(pages: &mut P, root: PageNo, key: i64, row: &[u8]) -> Resul
             count_and_replace(pages, leaf.page, &page, &new, (13 + row.len()) as u64)?;
             Ok(())
         }
-        None => Err(broken(leaf.page)),
+        None => {
+            grow_and_count(pages, root, key, row)?;
+            Ok(())
+        }
     }
 }
 

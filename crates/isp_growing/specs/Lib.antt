@@ -1,0 +1,5 @@
+pub mod Calls
+pub mod Grown
+pub mod Paths
+pub mod Rising
+pub mod Taking
