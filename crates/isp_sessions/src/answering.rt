@@ -5,6 +5,7 @@ ghost use Rattle.isp_connection.specs.Answering.{meant};
 ghost use Rattle.isp_connection.specs.Connections.{Holds};
 ghost use Rattle.isp_tables.specs.Calls.{Serves};
 ghost use Rattle.isp_image.specs.Databases.{Database};
+ghost use Rattle.isp_image.specs.Faults.{NamesLaterOrLacks};
 ghost use Rattle.isp_page.specs.Steps.{IsNoDamageOrLacks};
 ghost use Rattle.isp_serial.specs.Alone.{Full, State};
 ghost use Rattle.isp_sessions.specs.Plays.{StaysPlaying};
@@ -37,6 +38,7 @@ fn print_reply<P: Pages>(
         reply.now pages.old pages.new) }
     ensures sound { P.tells → (d : Database) (state : State)
         → Holds P.Pages pages.old connection.old state d → IfErr result IsNoDamageOrLacks }
+    ensures later { IfErr result NamesLaterOrLacks }
 {
     match print_answer(alloc, pages, connection.session(), number, reply) {
         Ok(()) => connection.sweep(pages),
@@ -67,6 +69,7 @@ fn answer_text<P: Pages>(
         number state (meant connection.old.trx.session text.now state) pages.old pages.new) }
     ensures sound { P.tells → (d : Database) (state : State)
         → Holds P.Pages pages.old connection.old state d → IfErr result IsNoDamageOrLacks }
+    ensures later { IfErr result NamesLaterOrLacks }
 {
     match connection.answer(pages, text) {
         Ok(reply) => print_reply(alloc, connection, pages, number, &reply),
@@ -95,6 +98,7 @@ pub(crate) fn answer_texts<P: Pages>(
         connection.old.trx.session texts.now state pages.old pages.new) }
     ensures sound { P.tells → (d : Database) (state : State)
         → Runs P.Pages pages.old connection.old state d → IfErr result IsNoDamageOrLacks }
+    ensures later { IfErr result NamesLaterOrLacks }
 {
     for (i, text) in texts.iter().enumerate() {
         match answer_text(alloc, connection, pages, i as u64 + 1, text) {
@@ -122,6 +126,7 @@ pub(crate) fn end_session<P: Pages>(
         Reply.End pages.old pages.new) }
     ensures sound { P.tells → (d : Database) (state : State)
         → Holds P.Pages pages.old connection.old state d → IfErr result IsNoDamageOrLacks }
+    ensures later { IfErr result NamesLaterOrLacks }
 {
     match connection.roll_back(pages) {
         Ok(()) => print_reply(alloc, connection, pages, number, &Reply::End),

@@ -3,6 +3,7 @@
 ghost use Rattle.std.specs.Prelude.{◌≡◌, ◌+◌, ◌<◌, ◌^◌, false, true, length, IfErr, OnErr, OnOk};
 ghost use Rattle.isp_tables.specs.Calls.{Serves};
 ghost use Rattle.isp_image.specs.Databases.{Database, tables_of};
+ghost use Rattle.isp_image.specs.Faults.{NamesLaterOrLacks};
 ghost use Rattle.isp_page.specs.Steps.{IsNoDamageOrLacks};
 ghost use Rattle.isp_serial.specs.Alone.{AreSmall, Full, IsAlone, State, settled};
 ghost use Rattle.isp_sessions.specs.Plays.{IsAtRest, IsSmall, Played, PlayedPart, StaysPlaying};
@@ -62,6 +63,7 @@ fn answer_setup<P: Pages>(alloc: Global, script: &Script, pages: &mut P) -> Resu
     ensures sound { P.tells → (d : Database)
         → IsAtRest (P.shape pages.old).pages (P.contents pages.old) d
         → IfErr result IsNoDamageOrLacks }
+    ensures later { IfErr result NamesLaterOrLacks }
 {
     match Connection::open(alloc, pages, 0) {
         Ok(mut connection) => {
@@ -90,6 +92,7 @@ fn answer_all<P: Pages>(
         connection.old.trx.session texts.now state pages.old pages.new) }
     ensures sound { P.tells → (d : Database) (state : State)
         → Runs P.Pages pages.old connection.old state d → IfErr result IsNoDamageOrLacks }
+    ensures later { IfErr result NamesLaterOrLacks }
 {
     match answer_texts(alloc, connection, pages, texts) {
         Ok(()) => end_session(alloc, connection, pages, end_number(texts)),
@@ -112,6 +115,7 @@ fn answer_session<P: Pages>(alloc: Global, pages: &mut P, session: &Session) -> 
     ensures sound { P.tells → (d : Database)
         → IsAtRest (P.shape pages.old).pages (P.contents pages.old) d
         → IfErr result IsNoDamageOrLacks }
+    ensures later { IfErr result NamesLaterOrLacks }
 {
     match Connection::open(alloc, pages, session.number) {
         Ok(mut connection) => {
@@ -137,6 +141,7 @@ fn answer_sessions<P: Pages>(alloc: Global, script: &Script, pages: &mut P) -> R
     ensures sound { P.tells → (d : Database)
         → IsAtRest (P.shape pages.old).pages (P.contents pages.old) d
         → IfErr result IsNoDamageOrLacks }
+    ensures later { IfErr result NamesLaterOrLacks }
 {
     match script.sessions.as_slice() {
         [session, ..] => answer_session(alloc, pages, session),
@@ -160,6 +165,7 @@ fn answer_script<P: Pages>(alloc: Global, script: &Script, pages: &mut P) -> Res
     ensures sound { P.tells → (d : Database)
         → IsAtRest (P.shape pages.old).pages (P.contents pages.old) d
         → IfErr result IsNoDamageOrLacks }
+    ensures later { IfErr result NamesLaterOrLacks }
 {
     match answer_setup(alloc, script, pages) {
         Ok(()) => answer_sessions(alloc, script, pages),
@@ -189,6 +195,7 @@ pub fn play<P: Pages>(alloc: Global, script: &Script, pages: &mut P) -> Result<(
     ensures sound { P.tells → (d : Database)
         → IsAtRest (P.shape pages.old).pages (P.contents pages.old) d
         → IfErr result IsNoDamageOrLacks }
+    ensures later { IfErr result NamesLaterOrLacks }
 {
     count_script(script);
     answer_script(alloc, script, pages)

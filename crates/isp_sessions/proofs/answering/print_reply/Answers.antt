@@ -1,4 +1,5 @@
 use Rattle.std.proofs.Common.{◌≡◌, ◌∙◌, ◌++◌, subst}
+use Rattle.isp_image.proofs.FaultLaws.{later_none_or}
 use Rattle.isp_plain.specs.Texts.{reply_text}
 use Rattle.isp_serial.specs.Alone.{answer_with}
 use Rattle.isp_serial.specs.Spelling.{line_of}
@@ -25,3 +26,6 @@ returns-in-Ok-clause-part g c = λ tells.
 pub returns-in-Ok-clause-sound : goal.returns-in-Ok-clause-sound
 returns-in-Ok-clause-sound g c = λ tells d state holds.
     c.sweep.ensures.sound tells d state (still_holds g.P.Pages c.args.pages.now c.print_answer.new.pages c.args.connection.now state d c.in-Ok.ensures.stays.shape (c.in-Ok.ensures.kept.contents tells) holds)
+
+pub returns-in-Err-clause-later : goal.returns-in-Err-clause-later
+returns-in-Err-clause-later g c = later_none_or c.in-Err.fault c.in-Err.ensures.sound
