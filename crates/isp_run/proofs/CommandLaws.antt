@@ -111,7 +111,7 @@ due status.PrintFault bytes image tables r r1 d d1 p p1 is gate bad damage reads
 due (status.BadScript line) bytes image tables r r1 d d1 p p1 is gate bad damage reads disks prints kept script calm quiet silent = not_bad bytes line (bad line refl) script
 due status.NotMade bytes image tables r r1 d d1 p p1 is gate bad damage reads disks prints kept script calm quiet silent = gate refl kept.stands_for.control.made
 due (status.Damaged page rule) bytes image tables r r1 d d1 p p1 is gate bad (inl broken) reads disks prints kept script calm quiet silent = never_broken rule image kept.contents kept.stands_for broken.1
-due (status.Damaged page rule) bytes image tables r r1 d d1 p p1 is gate bad (inr never) reads disks prints kept script calm quiet silent = never (tables, kept)
+due (status.Damaged page rule) bytes image tables r r1 d d1 p p1 is gate bad (inr later) reads disks prints kept script calm quiet silent = later.1 (tables, kept)
 due status.Usage bytes image tables r r1 d d1 p p1 is gate bad damage reads disks prints kept script calm quiet silent = is
 due status.AlreadyMade bytes image tables r r1 d d1 p p1 is gate bad damage reads disks prints kept script calm quiet silent = is
 

@@ -16,7 +16,7 @@ use Rattle.isp_sessions.specs.Plays.{IsAtRest, Played, PlayedPart}
 use Rattle.isp_store.specs.Starting.{IsFresh, IsStarted, StartRefuses}
 use Rattle.isp_store.specs.State.{StoreState, contents, shape}
 use Rattle.isp_run.specs.Causes.{CountsAt}
-use Rattle.isp_run.specs.Files.{IsBefore, IsDamage, IsNotDamaged, IsWorkStatus, NeverWorks, status_of}
+use Rattle.isp_run.specs.Files.{IsBefore, IsDamage, IsNotDamaged, IsWorkStatus, NamesLaterRule, NeverWorks, status_of}
 use Rattle.isp_run.specs.Working.{HasPlayed, HasWorked, RunsOn}
 use Rattle.isp_run.specs.declared.status.Status.{Status}
 use Rattle.isp_run.specs.declared.status.Status.TheVariants as status
@@ -59,17 +59,17 @@ before_work status.NotMade image contents stands is before = is
 before_work status.AlreadyMade image contents stands is before = is
 before_work status.ReadFault image contents stands is before = is
 
-damage_of : (status : Status) (image : Image) → ((tables : List Table) → IsKeptFile image tables → IsNotDamaged status) → IsDamage image status
-damage_of status.Done image sound = tt
-damage_of (status.Damaged page rule) image sound = inr (λ kept. sound kept.0 kept.1)
-damage_of status.DiskFault image sound = tt
-damage_of status.PrintFault image sound = tt
-damage_of status.OutOfMemory image sound = tt
-damage_of status.Usage image sound = tt
-damage_of (status.BadScript line) image sound = tt
-damage_of status.NotMade image sound = tt
-damage_of status.AlreadyMade image sound = tt
-damage_of status.ReadFault image sound = tt
+damage_of : (status : Status) (image : Image) → NamesLaterRule status → ((tables : List Table) → IsKeptFile image tables → IsNotDamaged status) → IsDamage image status
+damage_of status.Done image later sound = tt
+damage_of (status.Damaged page rule) image later sound = inr (later, λ kept. sound kept.0 kept.1)
+damage_of status.DiskFault image later sound = tt
+damage_of status.PrintFault image later sound = tt
+damage_of status.OutOfMemory image later sound = tt
+damage_of status.Usage image later sound = tt
+damage_of (status.BadScript line) image later sound = tt
+damage_of status.NotMade image later sound = tt
+damage_of status.AlreadyMade image later sound = tt
+damage_of status.ReadFault image later sound = tt
 
 counts_from : (fault now : Status) (before mid after : ℕ) → mid ≡ before → CountsAt fault now mid after → CountsAt fault now before after
 counts_from fault now before mid after same counts = subst (λ n. CountsAt fault now n after) same counts
@@ -85,7 +85,7 @@ module _ {W : Type 0} (g : Ghosts W) (script : Script) where
     front = λ tells alone. inr (λ first is_kept. front g script alone worked.small (shape g s) world new (contents g s) first
         (started.stood tells) (started.pages tells) (λ d rests. part_from (worked.part tells alone d rests)) is_kept);
     before = λ tells before. absurd (before_work end (g.image world) (contents g s) (started.stood tells) worked.statuses before);
-    damaged = λ tells. damage_of end (g.image world) (λ tables is.
+    damaged = λ tells. damage_of end (g.image world) worked.later (λ tables is.
         let is_kept = kept_as (g.image world) (contents g s) tables (started.stood tells) is in
         worked.sound tells is_kept.d (subst (λ n. IsAtRest n (contents g s) is_kept.d) (started.pages tells) is_kept.rests));
     broken = λ tells rule breaks. absurd (never_broken rule (g.image world) (contents g s) (started.stood tells) breaks);

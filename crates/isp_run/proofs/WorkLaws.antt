@@ -5,6 +5,8 @@ use Rattle.isp_disk.specs.Outside.{PrintsPart, Rose}
 use Rattle.isp_disk.specs.declared.world.World.{Ghosts}
 use Rattle.isp_format.specs.Ranges.{Contents}
 use Rattle.isp_image.specs.Databases.{Database}
+use Rattle.isp_image.specs.Faults.{NamesLaterOrLacks}
+use Rattle.isp_image.proofs.FaultLaws.{later_none}
 use Rattle.isp_page.specs.State.{FileShape}
 use Rattle.isp_page.specs.Steps.{FailsOnPages, IsNoDamage, IsNoDamageOrLacks}
 use Rattle.isp_page.specs.declared.fault.Fault.{Fault}
@@ -17,7 +19,7 @@ use Rattle.isp_sessions.specs.Plays.{IsAtRest, IsSmall, Played, PlayedPart, Stay
 use Rattle.isp_store.specs.Calls.{FlushesWhole, IsAllInPlace}
 use Rattle.isp_store.specs.State.{StoreState, contents, shape, store}
 use Rattle.isp_run.specs.Causes.{CountsAt}
-use Rattle.isp_run.specs.Files.{IsFullyPlaced, IsNotDamaged, IsWorkStatus, status_of}
+use Rattle.isp_run.specs.Files.{IsFullyPlaced, IsNotDamaged, IsWorkStatus, NamesLaterRule, status_of}
 use Rattle.isp_run.specs.Working.{HasWorked}
 use Rattle.isp_run.specs.declared.status.Status.{Status}
 use Rattle.isp_run.specs.declared.status.Status.TheVariants as status
@@ -35,6 +37,12 @@ sound_status Memory is = tt
 sound_status (Store Disk) is = tt
 sound_status (Store Print) is = tt
 sound_status (Store (Damaged page rule)) is = absurd is
+
+later_status : (fault : Fault) → NamesLaterOrLacks fault → NamesLaterRule (status_of fault)
+later_status Memory is = tt
+later_status (Store Disk) is = tt
+later_status (Store Print) is = tt
+later_status (Store (Damaged page rule)) is = is
 
 pub not_done : (P : Type 0) (fault : Fault) → status_of fault ≡ status.Done → P
 not_done P Memory is = let no : ⊥ = cc in absurd no
@@ -83,15 +91,16 @@ module _ {W : Type 0} (g : Ghosts W) where
     -- the script wasn't played to its end
     pub play_stops : (old new : StoreState W) (fault : Fault) (end : Status) → end ≡ status_of fault → (let failed : Result (Unit {0}) Fault = Err fault in StaysPlaying (store g) old new failed)
         → (g.tells → IsAlone script.sessions → (d : Database) → IsAtRest (shape g old).pages (contents g old) d → PlayedPart (shape g old).pages script d (g.printed old.stable.world) (g.printed new.stable.world))
-        → (g.tells → (d : Database) → IsAtRest (shape g old).pages (contents g old) d → IsNoDamageOrLacks fault)
+        → (g.tells → (d : Database) → IsAtRest (shape g old).pages (contents g old) d → IsNoDamageOrLacks fault) → NamesLaterOrLacks fault
         → HasWorked g script old.stable.world (contents g old) (shape g old) end new.stable.world
-    play_stops old new fault end ends stays part sound =
+    play_stops old new fault end ends stays part sound later =
         subst (λ (e : Status). HasWorked g script old.stable.world (contents g old) (shape g old) e new.stable.world) (sym ends) (record {
           statuses = work_status fault;
           small = small;
           done = λ tells alone is. not_done _ fault is;
           part = part;
           sound = λ tells d rests. sound_status fault (sound tells d rests);
+          later = later_status fault later;
           tidy = λ tells is. not_done _ fault is;
           disk = disk_counts old new fault stays.cause;
           printer = print_counts old new fault stays.cause;
@@ -114,6 +123,7 @@ module _ {W : Type 0} (g : Ghosts W) where
           };
           part = λ tells alone d rests. part_of (shape g old).pages script d (contents g new) (g.printed old.stable.world) (g.printed new.stable.world) (played_now tells alone d rests);
           sound = λ tells d rests. tt;
+          later = tt;
           tidy = λ tells is. (in_place g new tells placed).tidy;
           disk = steady status.DiskFault status.Done (g.disk_faults old.stable.world) (g.disk_faults new.stable.world) (λ is. cc) (keeps.goes_on.steady ∙ stays.counts.disk);
           printer = steady status.PrintFault status.Done (g.print_faults old.stable.world) (g.print_faults new.stable.world) (λ is. cc) (keeps.printer ∙ stays.counts.printer);
@@ -138,6 +148,7 @@ module _ {W : Type 0} (g : Ghosts W) where
           part = λ tells alone d rests. subst (λ (now : List ℕ). PlayedPart (shape g old).pages script d (g.printed old.stable.world) now) (sym keeps.silent)
               (part_of (shape g old).pages script d (contents g mid) (g.printed old.stable.world) (g.printed mid.stable.world) (played tells alone d rests));
           sound = λ tells d rests. sound_status (Store fault) (by fault sound);
+          later = later_status (Store fault) (later_none fault sound);
           tidy = λ tells is. not_done _ (Store fault) is;
           disk = (counts fault keeps.cause).0;
           printer = (counts fault keeps.cause).1;

@@ -1,5 +1,5 @@
 -- What the commands leave of a database file, and which statuses its bytes allow.
-use Rattle.std.specs.Prelude.{◌≡◌, ◌≢◌, ◌⊎◌, ℕ, zero, suc, ⊤, List, [], Option, Some, None, Result}
+use Rattle.std.specs.Prelude.{◌≡◌, ◌≢◌, ◌⊎◌, ℕ, ◌<◌, ⊤, List, [], Option, Some, None, Result}
 use Rattle.isp_disk.specs.Moments.{Image}
 use Rattle.isp_disk.specs.Outside.{HasCause}
 use Rattle.isp_disk.specs.declared.world.World.{Ghosts}
@@ -7,6 +7,7 @@ use Rattle.isp_format.specs.Contents.{StandsFor}
 use Rattle.isp_format.specs.Control.{fanout_in, made_gate, pages_in}
 use Rattle.isp_format.specs.Doublewrite.{area, doublewrite_gate}
 use Rattle.isp_format.specs.Ranges.{Contents}
+use Rattle.isp_format.specs.Rules.{log_rule}
 use Rattle.isp_image.specs.Files.{IsKeptFile}
 use Rattle.isp_opening.specs.Opening.{BreaksFirst}
 use Rattle.isp_page.specs.State.{FileShape}
@@ -53,21 +54,19 @@ ByGate (Some (commands.Run frames)) image status =
 
 -- ---- damaged files
 
--- one of the first three page rules, which say that an image stands for contents
-abbrev pub IsOpeningRule : ℕ → Type 0
-IsOpeningRule (suc zero) = ⊤
-IsOpeningRule (suc (suc zero)) = ⊤
-IsOpeningRule (suc (suc (suc zero))) = ⊤
-IsOpeningRule _ = ⊥
-
 -- the file is kept, whatever tables it stands for
 abbrev pub IsSomeKeptFile : Image → Type 0
 IsSomeKeptFile image = (tables : List Table) × IsKeptFile image tables
 
--- Damaged names page 0 and the first of these rules that the image breaks, or a later rule, and then the file isn't kept.
+-- Damaged names page 0 and the first of the rules 1 to 3 that the image breaks; or a later rule, and then the file isn't kept.
 abbrev pub IsDamage : Image → Status → Type 0
-IsDamage image (Damaged page rule) = ((page ≡ 0) × BreaksFirst rule image) ⊎ (IsSomeKeptFile image → ⊥)
+IsDamage image (Damaged page rule) = ((page ≡ 0) × BreaksFirst rule image) ⊎ ((log_rule < rule) × (IsSomeKeptFile image → ⊥))
 IsDamage image _ = ⊤
+
+-- a damaged page that is named breaks a later rule than those
+abbrev pub NamesLaterRule : Status → Type 0
+NamesLaterRule (Damaged page rule) = log_rule < rule
+NamesLaterRule _ = ⊤
 
 abbrev pub IsNotDamaged : Status → Type 0
 IsNotDamaged (Damaged page rule) = ⊥

@@ -9,7 +9,7 @@ use Rattle.isp_serial.specs.Alone.{IsAlone}
 use Rattle.isp_serial.specs.declared.script.Script.{Script}
 use Rattle.isp_sessions.specs.Plays.{IsAtRest, IsSmall, Played, PlayedPart}
 use Rattle.isp_run.specs.Causes.{CountsAt}
-use Rattle.isp_run.specs.Files.{IsBefore, IsDamage, IsFullyPlaced, IsNotDamaged, IsTidy, IsWorkStatus, NeverWorks}
+use Rattle.isp_run.specs.Files.{IsBefore, IsDamage, IsFullyPlaced, IsNotDamaged, IsTidy, IsWorkStatus, NamesLaterRule, NeverWorks}
 use Rattle.isp_run.specs.Ran.{FrontOn, RanOn}
 use Rattle.isp_run.specs.declared.status.Status.{Status}
 use Rattle.isp_run.specs.declared.status.Status.TheVariants.{Done, DiskFault, PrintFault}
@@ -27,6 +27,7 @@ pub record HasWorked {W : Type 0} (g : Ghosts W) (script : Script) (old : W) (co
   pub done : g.tells → IsAlone script.sessions → status ≡ Done → (d : Database) → IsAtRest shape.pages contents d → HasPlayed g script shape d old new
   pub part : g.tells → IsAlone script.sessions → (d : Database) → IsAtRest shape.pages contents d → PlayedPart shape.pages script d (g.printed old) (g.printed new)
   pub sound : g.tells → (d : Database) → IsAtRest shape.pages contents d → IsNotDamaged status
+  pub later : NamesLaterRule status
   pub tidy : g.tells → status ≡ Done → IsTidy (g.image new)
   pub disk : CountsAt DiskFault status (g.disk_faults old) (g.disk_faults new)
   pub printer : CountsAt PrintFault status (g.print_faults old) (g.print_faults new)

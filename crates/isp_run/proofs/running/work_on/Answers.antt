@@ -16,5 +16,5 @@ returns-in-Err-checkpoint g c = record {
 pub returns-in-Err : goal.returns-in-Err
 returns-in-Err g c = record {
   worked = play_stops g.W.World c.args.script.now c.in-Err.ensures.small c.args.store.now c.play.new.pages c.in-Err.fault c.status_of-in-Err.result c.status_of-in-Err.ensures
-      c.in-Err.ensures.stays c.in-Err.ensures.part c.in-Err.ensures.sound;
+      c.in-Err.ensures.stays c.in-Err.ensures.part c.in-Err.ensures.sound c.in-Err.ensures.later;
 }
