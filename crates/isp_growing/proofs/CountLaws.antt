@@ -1,5 +1,5 @@
 -- A tree of so many levels has so many leaves, and a file has no more pages.
-use Rattle.std.proofs.Common.{◌≡◌, ℕ, zero, suc, ◌+◌, ◌*◌, ◌<◌, ◌≤◌, ◌==◌, Bool, true, false, List, [], ◌∷◌, ◌++◌, length, length-append, refl, sym, ◌∙◌, ap, subst, arith, cond}
+use Rattle.std.proofs.Common.{◌≡◌, ℕ, zero, suc, ◌+◌, ◌<◌, ◌≤◌, ◌==◌, Bool, true, false, List, [], ◌∷◌, length, length-append, refl, ap, subst, arith, cond}
 use Rattle.isp_base.specs.Lists.{times}
 use Rattle.isp_format.specs.Inner.{Name}
 use Rattle.isp_levels.specs.Levels.{AllForked, InnerNode, Lead, LevelsForked, TreeLeaf, entries_of, leaf_names, leaf_pages, names_of}

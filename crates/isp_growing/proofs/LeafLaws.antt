@@ -1,12 +1,12 @@
 -- A leaf in two, and the whole tree behind it.
-use Rattle.std.proofs.Common.{◌≡◌, ℕ, zero, suc, ◌+◌, ◌<◌, ◌≤◌, ◌==◌, ℤ, Bool, true, false, List, [], ◌∷◌, ◌++◌, drop, take, length, Option, Some, None, refl, sym, ◌∙◌, ap, subst, arith, if◌then◌else◌}
+use Rattle.std.proofs.Common.{◌≡◌, ℕ, zero, suc, ◌+◌, ◌<◌, ◌≤◌, ℤ, true, false, List, [], ◌∷◌, ◌++◌, drop, take, length, Option, Some, None, refl, sym, ◌∙◌, ap, subst, arith}
 use Rattle.std.specs.Prelude.{All, FitsSigned, int_le, int_lt}
 use Rattle.std.specs.Int.{w64}
 use Rattle.std.proofs.lemmas.Int.{ints}
 use Rattle.std.proofs.lemmas.List.{append_assoc, take-append-drop}
 use Rattle.isp_base.specs.Lists.{times}
 use Rattle.isp_cells.specs.LeafPages.{IsLeaf}
-use Rattle.isp_cells.specs.Rows.{exchanged, new_row, with_put}
+use Rattle.isp_cells.specs.Rows.{new_row, with_put}
 use Rattle.isp_format.specs.Inner.{IsInnerPage, Name}
 use Rattle.isp_format.specs.Leaf.{IsStored, Stored}
 use Rattle.isp_format.specs.Ranges.{Contents, page_of}
@@ -33,7 +33,7 @@ use Rattle.isp_growing.specs.Grown.{CanGrow, IsGrown}
 use Rattle.isp_growing.specs.Paths.{IsPathTo}
 use Rattle.isp_growing.specs.declared.path.Path.{Path}
 use Rattle.isp_growing.specs.Rising.{CanGoUp, HasGoneUp, HasTaken, IsOnPath}
-use Rattle.isp_growing.specs.Taking.{moved_leaves, taken_times, takes}
+use Rattle.isp_growing.specs.Taking.{moved_leaves}
 use Rattle.isp_growing.proofs.RisingLaws.{goes_in, least_picked}
 use Rattle.isp_growing.proofs.TakenLaws.{outside_of, fewer_out, free_taken, one_taken, taken_then}
 

@@ -1,14 +1,14 @@
 -- The way down to the leaf of a key, with the page of each level.
-use Rattle.std.proofs.Common.{◌≡◌, ℕ, zero, suc, ◌+◌, ◌<◌, ◌≤◌, ◌==◌, ℤ, Bool, true, false, List, [], ◌∷◌, ◌++◌, length, Option, Some, None, refl, sym, ◌∙◌, ap, subst, arith, if◌then◌else◌}
-use Rattle.std.specs.Prelude.{FitsSigned, int_le, replicate, slice_index, slice_set}
+use Rattle.std.proofs.Common.{◌≡◌, ℕ, zero, suc, ◌<◌, ◌≤◌, ℤ, Bool, List, [], ◌∷◌, ◌++◌, length, Option, Some, None, refl, sym, ◌∙◌, ap, subst, arith, if◌then◌else◌}
+use Rattle.std.specs.Prelude.{FitsSigned, replicate, slice_index, slice_set}
 use Rattle.std.proofs.lemmas.List.{get_or-set_other, get_or-set_same}
 use Rattle.std.specs.Int.{w64}
 use Rattle.std.specs.Option.{option_map}
 use Rattle.isp_format.specs.Header.{header_of}
 use Rattle.isp_format.specs.Inner.{IsInnerPage, Name}
 use Rattle.isp_format.specs.Ranges.{Contents, page_of}
-use Rattle.isp_levels.specs.Inners.{OnWay, page_in_leaf, page_in_name}
-use Rattle.isp_levels.specs.Levels.{AllBegin, BeginsAt, InnerNode, IsTreeOf, Lead, LevelStands, LevelsBegin, LevelsInside, LevelsStand, NamesInside, NamesRise, Ranged, TreeLeaf, entries_of, leaf_names, leaf_pages, least_key, level_pages, names_of, pick, pick_in, pick_leaf, pick_node}
+use Rattle.isp_levels.specs.Inners.{page_in_leaf, page_in_name}
+use Rattle.isp_levels.specs.Levels.{AllBegin, BeginsAt, InnerNode, IsTreeOf, Lead, LevelStands, LevelsBegin, LevelsInside, LevelsStand, NamesInside, Ranged, TreeLeaf, entries_of, leaf_names, leaf_pages, least_key, level_pages, pick, pick_in, pick_leaf, pick_node}
 use Rattle.isp_levels.proofs.LevelLaws.{descends, lead_rises, leaves_rise, node_picked}
 use Rattle.isp_levels.proofs.WayLaws.{least_le, levels_inside, pages_first, pages_second, root_says, way_ends}
 use Rattle.isp_growth.specs.Growing.{ups}

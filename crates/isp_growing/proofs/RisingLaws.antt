@@ -1,5 +1,5 @@
 -- A division on its way up, step by step.
-use Rattle.std.proofs.Common.{◌≡◌, ℕ, zero, suc, ◌+◌, ◌<◌, ◌≤◌, ◌==◌, ℤ, Bool, true, false, List, [], ◌∷◌, ◌++◌, drop, take, length, length-append, Option, Some, None, refl, sym, ◌∙◌, ap, subst, arith, if◌then◌else◌}
+use Rattle.std.proofs.Common.{◌≡◌, ℕ, zero, suc, ◌+◌, ◌<◌, ◌≤◌, ℤ, Bool, true, false, List, [], ◌∷◌, ◌++◌, drop, take, length, length-append, Option, Some, None, refl, sym, ◌∙◌, ap, subst, arith, if◌then◌else◌}
 use Rattle.std.specs.Prelude.{int_le, int_lt, nat_lt, slice_index}
 use Rattle.std.proofs.lemmas.Bool.Decides.{nat_tests}
 use Rattle.std.proofs.lemmas.Int.{ints}
@@ -9,11 +9,11 @@ use Rattle.isp_format.specs.Ranges.{Contents, page_of}
 use Rattle.isp_page.specs.State.{is_among}
 use Rattle.isp_page.specs.Touched.{KeepsPages}
 use Rattle.isp_space.specs.Spaces.{Space, free_pages, taken}
-use Rattle.isp_levels.specs.Dividing.{first_low, left_names}
+use Rattle.isp_levels.specs.Dividing.{left_names}
 use Rattle.isp_levels.specs.Levels.{InnerNode, LevelStands, TreeLeaf, leaf_names, leaf_pages, least_key, level_pages, names_of, node_pages, or_else, pick_node}
 use Rattle.isp_levels.proofs.PageLaws.{times_append, times_itself}
 use Rattle.isp_growth.specs.Entries.{with_name}
-use Rattle.isp_growth.specs.Growing.{IsLacking, IsSpaceBeside, Linked, grown_pages}
+use Rattle.isp_growth.specs.Growing.{IsLacking, Linked, grown_pages}
 use Rattle.isp_growth.proofs.BesideLaws.{are_taken, changes_one}
 use Rattle.isp_growth.proofs.GrowLaws.{entry_grown, first_key_is, first_page_is, node_grown, raised_root, root_grown}
 use Rattle.isp_growth.proofs.SeamLaws.{grown_times}

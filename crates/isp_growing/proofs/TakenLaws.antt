@@ -1,18 +1,17 @@
 -- Pages that a tree takes one after another from the space beside it, and what stays meanwhile.
-use Rattle.std.proofs.Common.{◌≡◌, ℕ, zero, suc, ◌+◌, ◌-◌, ◌<◌, ◌≤◌, ◌==◌, ◌||◌, Bool, true, false, List, [], ◌∷◌, ◌++◌, length, refl, sym, ◌∙◌, ap, subst, arith, cond}
+use Rattle.std.proofs.Common.{◌≡◌, ℕ, zero, suc, ◌+◌, ◌-◌, ◌<◌, ◌≤◌, ◌==◌, ◌||◌, Bool, true, false, List, [], ◌∷◌, length, refl, ◌∙◌, ap, arith, cond}
 use Rattle.std.specs.Prelude.{All}
 use Rattle.isp_base.specs.Lists.{times}
-use Rattle.isp_format.specs.Ranges.{Contents, page_of}
+use Rattle.isp_format.specs.Ranges.{Contents}
 use Rattle.isp_page.specs.State.{is_among}
 use Rattle.isp_page.specs.Touched.{KeepsPages, is_page}
 use Rattle.isp_space.specs.Spaces.{IsSpace, Space, free_pages, fresh_after, next_free, rest_of, space_pages, taken}
-use Rattle.isp_levels.proofs.PageLaws.{NoneOf, times_itself}
+use Rattle.isp_levels.proofs.PageLaws.{times_itself}
 use Rattle.isp_growth.specs.Growing.{IsSpaceBeside}
 use Rattle.isp_growth.proofs.BesideLaws.{beside_on, space_kept}
 use Rattle.isp_growth.proofs.StepLaws.{ChangesOne}
 use Rattle.isp_halving.specs.Calls.{IsOutside}
 use Rattle.isp_growing.specs.Rising.{HasTaken}
-use Rattle.isp_growing.specs.Taking.{taken_times, takes}
 
 -- ---- a page that isn't on a list
 

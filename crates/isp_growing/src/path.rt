@@ -44,11 +44,7 @@ fn top_of<P: Pages>(pages: &mut P, root: PageNo) -> Result<u8, StoreFault>
 }
 
 /// The path to the leaf of a key.
-pub(crate) fn path_for<P: Pages>(
-    pages: &mut P,
-    root: PageNo,
-    key: i64,
-) -> Result<Path, StoreFault>
+pub(crate) fn path_for<P: Pages>(pages: &mut P, root: PageNo, key: i64) -> Result<Path, StoreFault>
     requires usable { P.usable pages.old ≡ true }
     requires page { root.0 < (P.shape pages.old).pages }
     ensures down { FindsPath P.Pages root.0 pages.old pages.new result }

@@ -16,12 +16,7 @@ use isp_page::{Pages, StoreFault};
 
 // Puts an entry into a full root so high above the leaves: what stands on its page moves to a page that is taken, and is divided
 // there.
-fn raise_up<P: Pages>(
-    pages: &mut P,
-    root: PageNo,
-    level: u8,
-    new: Entry,
-) -> Result<(), StoreFault>
+fn raise_up<P: Pages>(pages: &mut P, root: PageNo, level: u8, new: Entry) -> Result<(), StoreFault>
     requires can { MayGoUp P.Pages level pages.old }
     requires page { root.0 < (P.shape pages.old).pages }
     ensures kept { Continues P.Pages pages.old pages.new result }

@@ -1,16 +1,15 @@
-use Rattle.std.proofs.Common.{rules, ◌≡◌, ℕ, ◌<◌, ℤ, List, [], ◌∷◌, length, refl, sym, ◌∙◌, ap, subst, arith}
+use Rattle.std.proofs.Common.{◌≡◌, ℕ, ◌<◌, ℤ, [], ◌∷◌, refl, sym, ◌∙◌, ap, subst, arith}
 use Rattle.std.specs.Int.{w64}
 use Rattle.std.proofs.lemmas.Int.{to_z-of_z}
 use Rattle.isp_cells.specs.Rows.{with_put}
 use Rattle.std.proofs.lemmas.Result.{err_from_is_err_and}
-use Rattle.isp_format.specs.Ranges.{Contents, page_of}
 use Rattle.isp_halving.specs.Halved.{IsLeafHalved}
 use Rattle.isp_levels.specs.Dividing.{is_divided}
 use Rattle.isp_levels.specs.Levels.{least_key}
 use Rattle.isp_page.specs.State.{FileShape}
 use Rattle.isp_page.specs.Steps.{IsNoDamage}
 use Rattle.isp_space.specs.Spaces.{IsSpace, free_pages, taken}
-use Rattle.isp_growing.proofs.LeafLaws.{is_lone, least_below, lone_apart, lone_beside, lone_raised, lone_stands, lone_whole, moved_divided, moved_root_stands, moved_stands_apart}
+use Rattle.isp_growing.proofs.LeafLaws.{least_below, lone_apart, lone_raised, lone_stands, lone_whole, moved_divided, moved_root_stands, moved_stands_apart}
 use Rattle.isp_growing.proofs.MiniLaws.{change_on, changes_three, err_is}
 use Rattle.isp_growing.proofs.TakenLaws.{free_taken}
 use Rattle.isp_growing.proofs.dividing.divide_root.Goals as goal

@@ -1,4 +1,4 @@
-use Rattle.std.proofs.Common.{rules, ◌≡◌, ℕ, ◌<◌, ℤ, List, [], ◌∷◌, length, refl, sym, ◌∙◌, ap, subst, arith}
+use Rattle.std.proofs.Common.{rules, ◌≡◌, ℕ, ◌<◌, ℤ, [], length, sym, ◌∙◌, ap, subst, arith}
 use Rattle.std.specs.Prelude.{slice_index}
 use Rattle.std.specs.Int.{w64}
 use Rattle.std.proofs.lemmas.Int.{to_z-of_z}
@@ -8,7 +8,7 @@ use Rattle.isp_cells.specs.Rows.{with_put}
 use Rattle.isp_format.specs.Ranges.{Contents, page_of}
 use Rattle.isp_halving.specs.Halved.{IsLeafHalved}
 use Rattle.isp_levels.specs.Dividing.{is_divided}
-use Rattle.isp_levels.specs.Levels.{InnerNode, first_page}
+use Rattle.isp_levels.specs.Levels.{first_page}
 use Rattle.isp_page.specs.State.{FileShape}
 use Rattle.isp_page.specs.Steps.{IsNoDamage}
 use Rattle.isp_space.specs.Spaces.{free_pages, taken}

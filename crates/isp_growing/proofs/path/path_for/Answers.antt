@@ -1,4 +1,4 @@
-use Rattle.std.proofs.Common.{rules, ◌≡◌, ℕ, suc, ◌-◌, ◌<◌, ◌≤◌, ℤ, List, Some, length, refl, sym, ◌∙◌, ap, subst, arith}
+use Rattle.std.proofs.Common.{rules, ◌≡◌, ℕ, suc, ◌-◌, ◌<◌, ℤ, List, Some, length, sym, ◌∙◌, ap, subst, arith}
 use Rattle.std.specs.Prelude.{replicate, slice_index, slice_set}
 use Rattle.std.specs.Int.{w64}
 use Rattle.std.proofs.lemmas.Int.{to_z-of_z}
@@ -6,11 +6,10 @@ use Rattle.std.proofs.lemmas.List.{length-set}
 use Rattle.isp_format.specs.Inner.{IsInnerPage}
 use Rattle.isp_format.specs.Ranges.{Contents, page_of}
 use Rattle.isp_page.specs.State.{FileShape}
-use Rattle.isp_levels.specs.Inners.{OnWay, page_in_name}
+use Rattle.isp_levels.specs.Inners.{page_in_name}
 use Rattle.isp_levels.specs.Levels.{pick}
 use Rattle.isp_cells.proofs.CellLaws.{number_some}
 use Rattle.isp_levels.proofs.WayLaws.{root_says}
-use Rattle.isp_growing.specs.Paths.{IsPath}
 use Rattle.isp_growing.proofs.PathLaws.{OnPath, path_begins, path_ends, path_on, replicated, set_beyond, set_here, set_inside}
 use Rattle.isp_growing.proofs.path.path_for.Goals as goal
 

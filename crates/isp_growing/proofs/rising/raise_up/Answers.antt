@@ -1,18 +1,15 @@
-use Rattle.std.proofs.Common.{rules, ◌≡◌, ℕ, zero, suc, ◌+◌, ◌<◌, ℤ, List, [], ◌∷◌, length, refl, sym, ◌∙◌, ap, subst, arith}
+use Rattle.std.proofs.Common.{◌≡◌, ℕ, ◌+◌, ◌<◌, [], ◌∷◌, refl, sym, ◌∙◌, ap, subst, arith}
 use Rattle.std.proofs.lemmas.Result.{err_from_is_err_and}
-use Rattle.isp_format.specs.Inner.{IsInnerPage}
-use Rattle.isp_format.specs.Ranges.{page_of}
 use Rattle.isp_halving.specs.Halved.{IsInnerHalved, IsRaised}
-use Rattle.isp_levels.specs.Levels.{InnerNode, least_key}
+use Rattle.isp_levels.specs.Levels.{least_key}
 use Rattle.isp_page.specs.State.{FileShape}
 use Rattle.isp_page.specs.Steps.{IsNoDamage}
 use Rattle.isp_space.specs.Spaces.{IsSpace, free_pages, taken}
 use Rattle.isp_growth.specs.Entries.{with_name}
-use Rattle.isp_growth.proofs.GrowLaws.{raised_root}
 use Rattle.isp_growing.specs.Rising.{HasGoneUp}
 use Rattle.isp_growing.proofs.MiniLaws.{err_is, goes_raised, may_change, may_on}
 use Rattle.isp_growing.proofs.RisingLaws.{RaisedUp, divided_root, goes_raised_up, moved_apart, not_so_high, raised_whole, root_apart, root_stands, top_stands}
-use Rattle.isp_growing.proofs.TakenLaws.{outside_of, free_taken}
+use Rattle.isp_growing.proofs.TakenLaws.{free_taken}
 use Rattle.isp_growing.proofs.rising.raise_up.Goals as goal
 
 pub divide_inner-requires-clause-can : goal.divide_inner-requires-clause-can
