@@ -1,12 +1,11 @@
 -- A row that is put into a leaf that has no room for it, and its bytes, which are counted.
-use Rattle.std.proofs.Common.{◌≡◌, ℕ, zero, suc, ◌+◌, ◌<◌, ◌≤◌, ◌==◌, ◌||◌, ℤ, Bool, true, false, List, [], ◌∷◌, ◌++◌, length, Option, Some, None, refl, sym, ◌∙◌, ap, subst, arith, cond}
+use Rattle.std.proofs.Common.{◌≡◌, ℕ, zero, suc, ◌+◌, ◌<◌, ◌≤◌, ◌==◌, ℤ, Bool, true, false, List, [], ◌∷◌, ◌++◌, length, Some, refl, sym, ◌∙◌, ap, subst, arith, cond}
 use Rattle.std.specs.Prelude.{All, nat_le, nat_lt}
 use Rattle.std.proofs.lemmas.Bool.Decides.{nat_tests}
 use Rattle.isp_base.specs.Lists.{times}
 use Rattle.isp_cells.specs.Rows.{behind, below, bytes_in, is_fitting, new_row, with_put}
 use Rattle.isp_format.specs.Leaf.{Stored}
-use Rattle.isp_format.specs.Ranges.{Contents, page_of}
-use Rattle.isp_page.specs.State.{is_among}
+use Rattle.isp_format.specs.Ranges.{Contents}
 use Rattle.isp_page.specs.Touched.{KeepsPages, is_page}
 use Rattle.isp_space.specs.Spaces.{IsSpace, Space, space_pages, taken}
 use Rattle.isp_space.proofs.ChangesLaws.{among_one}
@@ -14,11 +13,11 @@ use Rattle.isp_growing.specs.Grown.{CanGrow, IsGrown}
 use Rattle.isp_growing.specs.Taking.{taken_times, takes}
 use Rattle.isp_growing.proofs.TakenLaws.{zero_first}
 use Rattle.isp_levels.specs.Dividing.{is_divided}
-use Rattle.isp_levels.specs.Levels.{ArePages, InnerNode, IsTreeOf, TreeLeaf, leaf_pages, level_pages, pick_leaf, tree_pages}
+use Rattle.isp_levels.specs.Levels.{IsTreeOf, TreeLeaf, leaf_pages, level_pages, pick_leaf, tree_pages}
 use Rattle.isp_levels.proofs.PageLaws.{keeps_same, times_append, zero_absent}
 use Rattle.isp_levels.proofs.StandLaws.{levelled_local, same_first, same_second}
-use Rattle.isp_clustered.specs.Puts.{CanPut, IsBeside, IsPut}
-use Rattle.isp_clustered.specs.Trees.{IsTree, Tree, pages_of}
+use Rattle.isp_clustered.specs.Puts.{CanPut, IsPut}
+use Rattle.isp_clustered.specs.Trees.{Tree, pages_of}
 
 -- ---- where a leaf has no room
 

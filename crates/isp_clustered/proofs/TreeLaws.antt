@@ -1,19 +1,18 @@
 -- A tree: its rows rise, it is one at most, it stands on its own pages alone, and what is changed at one key of each leaf is
 -- changed at that key of all rows.
-use Rattle.std.proofs.Common.{◌≡◌, ℕ, suc, ◌+◌, ◌<◌, ◌≤◌, ◌==◌, ℤ, Bool, true, false, ◌||◌, List, [], ◌∷◌, ◌++◌, length, map, Option, Some, None, refl, sym, ◌∙◌, ap, subst, arith}
+use Rattle.std.proofs.Common.{◌≡◌, ℕ, suc, ◌+◌, ◌<◌, ◌≤◌, ◌==◌, ℤ, Bool, true, false, List, [], ◌∷◌, ◌++◌, Option, Some, None, refl, sym, ◌∙◌, ap, subst, arith}
 use Rattle.std.specs.Prelude.{All, cond, int_le, int_lt}
 use Rattle.std.specs.Option.{option_map}
 use Rattle.std.proofs.lemmas.Int.{ints}
 use Rattle.isp_base.specs.Lists.{times}
 use Rattle.isp_format.specs.Leaf.{IsStored, Stored}
 use Rattle.isp_format.specs.Ranges.{Contents, page_of}
-use Rattle.isp_page.specs.State.{is_among}
 use Rattle.isp_page.specs.Touched.{KeepsPages}
 use Rattle.isp_cells.specs.LeafPages.{IsLeaf}
 use Rattle.isp_cells.specs.Rows.{Rises, find, marked_at, rewritten, with_mark, with_row, without}
 use Rattle.isp_levels.specs.Edits.{ChangesAt, IsAt}
 use Rattle.isp_levels.specs.Inners.{page_in_leaf}
-use Rattle.isp_levels.specs.Levels.{LeavesStand, LieFrom, TreeLeaf, all_rows, first_page, leaf_pages, least_key, level_pages, pick_leaf}
+use Rattle.isp_levels.specs.Levels.{LeavesStand, LieFrom, TreeLeaf, first_page, leaf_pages, least_key, level_pages, pick_leaf}
 use Rattle.isp_levels.proofs.AmongLaws.{all_changed, find_at, picked_at}
 use Rattle.isp_levels.proofs.LevelLaws.{all_rise}
 use Rattle.isp_levels.proofs.PageLaws.{leaf_stands}

@@ -1,6 +1,6 @@
 -- What the calls of a tree ask of a store of pages, and what they leave alone; at a bound `P: Pages`, cited as
 -- `ReadsTree P.Pages root.0 pages.old pages.new result`.
-use Rattle.std.specs.Prelude.{◌≡◌, ℕ, ◌⊎◌, ◌<◌, ◌||◌, ℤ, List, [], Result, IfErr, IfOk, OnOk, ⊤}
+use Rattle.std.specs.Prelude.{◌≡◌, ℕ, ◌<◌, ◌||◌, ℤ, List, [], Result, IfErr, IfOk, OnOk, ⊤}
 use Rattle.isp_base.specs.declared.page_no.PageNo.{PageNo}
 use Rattle.isp_format.specs.Header.{header_of}
 use Rattle.isp_format.specs.Leaf.{Stored}

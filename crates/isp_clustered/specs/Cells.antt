@@ -1,5 +1,4 @@
 -- What a call answers of a row.
-use Rattle.std.specs.Prelude.{length}
 use Rattle.isp_format.specs.Leaf.{Stored, slot_of}
 use Rattle.isp_clustered.specs.declared.kept.Kept.{Kept}
 

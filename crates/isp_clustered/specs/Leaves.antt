@@ -1,7 +1,5 @@
 -- What a call answers of a whole leaf.
 use Rattle.std.specs.Prelude.{◌≡◌, ◌==◌, ℕ, List, Option, Some, None, map, if◌then◌else◌}
-use Rattle.std.specs.Option.{option_map}
-use Rattle.isp_base.specs.declared.page_no.PageNo.{PageNo}
 use Rattle.isp_format.specs.Leaf.{Stored}
 use Rattle.isp_levels.specs.Inners.{number_of}
 use Rattle.isp_clustered.specs.Cells.{kept_of}

@@ -1,12 +1,12 @@
 -- What a row that is put makes of a tree, of the space, and of the contents: the leaf that has the key's place is edited, or
 -- divided in two (B-trees of Bayer and McCreight 1972, with the rows on the leaves), and the pages for it are free ones.
-use Rattle.std.specs.Prelude.{◌≡◌, ℕ, zero, suc, ◌+◌, ◌<◌, ◌≤◌, ◌||◌, ℤ, true, false, List, [], ◌∷◌, ◌++◌, All, Option, Some, length}
+use Rattle.std.specs.Prelude.{◌≡◌, ℕ, ◌+◌, ◌<◌, ◌≤◌, ◌||◌, ℤ, true, List, ◌∷◌, ◌++◌, All, Option, length}
 use Rattle.isp_base.specs.Lists.{times}
-use Rattle.isp_format.specs.Leaf.{Stored, stored_head}
+use Rattle.isp_format.specs.Leaf.{stored_head}
 use Rattle.isp_format.specs.Ranges.{Contents}
 use Rattle.isp_page.specs.State.{is_among}
 use Rattle.isp_page.specs.Touched.{KeepsPages, is_page}
-use Rattle.isp_space.specs.Spaces.{IsSpace, Space, free_pages, most_counted, next_free, space_pages, taken}
+use Rattle.isp_space.specs.Spaces.{IsSpace, Space, free_pages, most_counted, space_pages}
 use Rattle.isp_cells.specs.Rows.{may_put, with_put}
 use Rattle.isp_clustered.specs.Trees.{IsTree, Tree, pages_of, rows_of}
 use Rattle.isp_levels.specs.Dividing.{with_row_put}

@@ -1,9 +1,7 @@
-use Rattle.std.proofs.Common.{rules, ℤ, Option, sym, ◌∙◌, ap}
+use Rattle.std.proofs.Common.{rules, ℤ, sym, ◌∙◌, ap}
 use Rattle.std.specs.Int.{w64}
 use Rattle.std.specs.Option.{option_map}
 use Rattle.std.proofs.lemmas.Int.{to_z-of_z}
-use Rattle.isp_format.specs.Leaf.{Stored}
-use Rattle.isp_cells.specs.Cells.{place_in}
 use Rattle.isp_cells.specs.Rows.{find}
 use Rattle.isp_cells.proofs.CellLaws.{leaf_stands_to, none_some, place_some}
 use Rattle.isp_clustered.specs.Cells.{kept_of}
