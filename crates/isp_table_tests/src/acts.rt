@@ -1,10 +1,10 @@
 //! Calls on a tree as plain data.
-ghost use Rattle.std.specs.Prelude.{◌≡◌, ◌<◌, true, OnOk};
+ghost use Rattle.std.specs.Prelude.{◌≡◌, ◌<◌, true, IfOk, OnOk};
 ghost use Rattle.isp_page.specs.State.{none_begun};
 ghost use Rattle.isp_space.specs.Changes.{MayChange};
 ghost use Rattle.isp_clustered.specs.Puts.{most_put};
 
-use isp_clustered::{drop_marked, mark, put, rewrite};
+use isp_clustered::{create, drop_marked, mark, put, rewrite};
 use isp_format::PageNo;
 use isp_page::{Pages, StoreFault};
 
@@ -92,5 +92,34 @@ pub(crate) fn do_one<P: Pages>(pages: &mut P, root: PageNo, act: Act) -> Result<
     pages.begin();
     apply(pages, root, act)?;
     pages.finish()?;
+    Ok(())
+}
+
+/// Makes the tree of table 1 in a mini-transaction of its own.
+pub(crate) fn make<P: Pages>(pages: &mut P) -> Result<PageNo, StoreFault>
+    requires usable { P.usable pages.old ≡ true }
+    requires none { P.mini pages.old ≡ none_begun }
+    ensures usable { OnOk result (P.usable pages.new ≡ true) }
+    ensures none { OnOk result (P.mini pages.new ≡ none_begun) }
+    ensures page { IfOk result (λ root. root.0 < (P.shape pages.new).pages) }
+    ensures shape { OnOk result (P.shape pages.new ≡ P.shape pages.old) }
+{
+    pages.begin();
+    let root = create(pages, 1)?;
+    pages.finish()?;
+    Ok(root)
+}
+
+/// Does these acts, each in a mini-transaction of its own.
+pub(crate) fn do_all<P: Pages>(pages: &mut P, root: PageNo, acts: &[Act]) -> Result<(), StoreFault>
+    requires usable { P.usable pages.old ≡ true }
+    requires none { P.mini pages.old ≡ none_begun }
+    requires page { root.0 < (P.shape pages.old).pages }
+    ensures usable { OnOk result (P.usable pages.new ≡ true) }
+    ensures shape { OnOk result (P.shape pages.new ≡ P.shape pages.old) }
+{
+    for act in acts {
+        do_one(pages, root, *act)?;
+    }
     Ok(())
 }

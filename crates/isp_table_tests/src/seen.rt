@@ -16,6 +16,20 @@ pub(crate) struct Seen {
     pub slot: u16,
 }
 
+/// A row that isn't marked, in a slot of its length.
+macro_rules! seen {
+    ($key:expr, $len:expr) => {
+        Seen {
+            key: $key,
+            len: $len,
+            marked: false,
+            slot: $len,
+        }
+    };
+}
+
+pub(crate) use seen;
+
 // Whether the row is that one.
 fn is_kept(kept: &Kept, seen: Seen) -> bool {
     let row = kept.row.as_slice();
@@ -34,9 +48,9 @@ fn is_row(row: &KeptRow, seen: Seen) -> bool {
     row.key == seen.key && is_kept(&row.kept, seen)
 }
 
-// Whether the leaf is the only one and has these rows and no others.
-fn has_rows(leaf: &Leaf, root: PageNo, rows: &[Seen]) -> bool {
-    if leaf.page != root || leaf.next.is_some() || leaf.rows.len() != rows.len() {
+// Whether the leaf has these rows and no others.
+pub(crate) fn has_rows(leaf: &Leaf, rows: &[Seen]) -> bool {
+    if leaf.rows.len() != rows.len() {
         return false;
     }
     for (row, seen) in leaf.rows.as_slice().iter().zip(rows) {
@@ -47,7 +61,7 @@ fn has_rows(leaf: &Leaf, root: PageNo, rows: &[Seen]) -> bool {
     true
 }
 
-/// Whether the first leaf of the tree is the only one and has these rows and no others.
+/// Whether the tree's page is its only leaf and has these rows and no others.
 pub(crate) fn has_leaf<P: Pages>(
     alloc: Global,
     pages: &mut P,
@@ -60,20 +74,27 @@ pub(crate) fn has_leaf<P: Pages>(
     ensures shape { OnOk result (P.shape pages.new ≡ P.shape pages.old) }
 {
     let leaf = next_leaf(alloc, pages, root, None)?;
-    Ok(has_rows(&leaf, root, rows))
+    Ok(leaf.page == root && leaf.next.is_none() && has_rows(&leaf, rows))
 }
 
-// Whether the row is found by its key.
-fn finds<P: Pages>(alloc: Global, pages: &mut P, root: PageNo, seen: Seen) -> Result<bool, Fault>
+/// Whether that is what is found by the key: that row, or none.
+pub(crate) fn finds<P: Pages>(
+    alloc: Global,
+    pages: &mut P,
+    root: PageNo,
+    key: i64,
+    row: Option<Seen>,
+) -> Result<bool, Fault>
     requires usable { P.usable pages.old ≡ true }
     requires page { root.0 < (P.shape pages.old).pages }
     ensures usable { OnOk result (P.usable pages.new ≡ true) }
     ensures shape { OnOk result (P.shape pages.new ≡ P.shape pages.old) }
 {
-    let found = get(alloc, pages, root, seen.key)?;
-    match found {
-        Some(kept) => Ok(is_kept(&kept, seen)),
-        None => Ok(false),
+    let found = get(alloc, pages, root, key)?;
+    match (&found, row) {
+        (Some(kept), Some(seen)) => Ok(is_kept(kept, seen)),
+        (None, None) => Ok(true),
+        _ => Ok(false),
     }
 }
 
@@ -90,26 +111,10 @@ pub(crate) fn finds_all<P: Pages>(
     ensures shape { OnOk result (P.shape pages.new ≡ P.shape pages.old) }
 {
     for seen in rows {
-        let there = finds(alloc, pages, root, *seen)?;
+        let there = finds(alloc, pages, root, seen.key, Some(*seen))?;
         if !there {
             return Ok(false);
         }
     }
     Ok(true)
-}
-
-/// Whether a key isn't there.
-pub(crate) fn lacks<P: Pages>(
-    alloc: Global,
-    pages: &mut P,
-    root: PageNo,
-    key: i64,
-) -> Result<bool, Fault>
-    requires usable { P.usable pages.old ≡ true }
-    requires page { root.0 < (P.shape pages.old).pages }
-    ensures usable { OnOk result (P.usable pages.new ≡ true) }
-    ensures shape { OnOk result (P.shape pages.new ≡ P.shape pages.old) }
-{
-    let found = get(alloc, pages, root, key)?;
-    Ok(found.is_none())
 }

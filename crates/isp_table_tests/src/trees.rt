@@ -1,10 +1,9 @@
 //! Trees of one leaf beside the list of their rows.
-ghost use Rattle.std.specs.Prelude.{◌≡◌, ◌<◌, true, IfOk, OnOk};
+ghost use Rattle.std.specs.Prelude.{◌≡◌, ◌<◌, true, OnOk};
 ghost use Rattle.isp_page.specs.State.{none_begun};
 
-use crate::acts::{Act, do_one};
-use crate::seen::{Seen, finds_all, has_leaf, lacks};
-use isp_clustered::create;
+use crate::acts::{Act, do_all, do_one, make};
+use crate::seen::{Seen, finds, finds_all, has_leaf, seen};
 use isp_format::{PAGE_BYTES, Page, PageNo, head};
 use isp_page::{Fault, MemPages, Pages, StoreFault};
 use std::alloc::Global;
@@ -16,18 +15,6 @@ struct Row {
     rows: &'static [Seen],
     used: u32,
     lacks: i64,
-}
-
-/// A row that isn't marked, in a slot of its length.
-macro_rules! seen {
-    ($key:expr, $len:expr) => {
-        Seen {
-            key: $key,
-            len: $len,
-            marked: false,
-            slot: $len,
-        }
-    };
 }
 
 static ROWS: [Row; 6] = [
@@ -129,44 +116,16 @@ static ROWS: [Row; 6] = [
     // Four rows that fill the page to its end.
     Row {
         acts: &[
-            Act::Put(4, 995),
-            Act::Put(2, 995),
             Act::Put(1, 995),
+            Act::Put(2, 995),
             Act::Put(3, 995),
+            Act::Put(4, 995),
         ],
         rows: &[seen!(1, 995), seen!(2, 995), seen!(3, 995), seen!(4, 995)],
         used: 4_096,
         lacks: 0,
     },
 ];
-
-// Makes a tree in a mini-transaction of its own.
-fn make<P: Pages>(pages: &mut P) -> Result<PageNo, StoreFault>
-    requires usable { P.usable pages.old ≡ true }
-    requires none { P.mini pages.old ≡ none_begun }
-    ensures usable { OnOk result (P.usable pages.new ≡ true) }
-    ensures none { OnOk result (P.mini pages.new ≡ none_begun) }
-    ensures page { IfOk result (λ root. root.0 < (P.shape pages.new).pages) }
-{
-    pages.begin();
-    let root = create(pages, 1)?;
-    pages.finish()?;
-    Ok(root)
-}
-
-// Does these acts.
-fn do_all<P: Pages>(pages: &mut P, root: PageNo, acts: &[Act]) -> Result<(), StoreFault>
-    requires usable { P.usable pages.old ≡ true }
-    requires none { P.mini pages.old ≡ none_begun }
-    requires page { root.0 < (P.shape pages.old).pages }
-    ensures usable { OnOk result (P.usable pages.new ≡ true) }
-    ensures shape { OnOk result (P.shape pages.new ≡ P.shape pages.old) }
-{
-    for act in acts {
-        do_one(pages, root, *act)?;
-    }
-    Ok(())
-}
 
 // Whether the header of the tree's page counts so many rows and says where they end.
 fn has_head<P: Pages>(
@@ -199,7 +158,7 @@ fn is_so<P: Pages>(alloc: Global, pages: &mut P, row: &Row) -> Result<bool, Faul
     let headed = has_head(pages, root, row.rows.len(), row.used)?;
     let listed = has_leaf(alloc, pages, root, row.rows)?;
     let found = finds_all(alloc, pages, root, row.rows)?;
-    let lacked = lacks(alloc, pages, root, row.lacks)?;
+    let lacked = finds(alloc, pages, root, row.lacks, None)?;
     Ok(headed && listed && found && lacked)
 }
 

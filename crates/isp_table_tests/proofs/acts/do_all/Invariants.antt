@@ -1,6 +1,6 @@
 use Rattle.std.proofs.Common.{◌≡◌, true}
 use Rattle.isp_page.specs.State.{none_begun}
-use Rattle.isp_table_tests.proofs.trees.do_all.Given as goal
+use Rattle.isp_table_tests.proofs.acts.do_all.Given as goal
 
 -- between two acts the store can be used, and no mini-transaction is begun
 abbrev pub invariant-loop-act : goal.invariant-loop-act

@@ -1,0 +1,10 @@
+use Rattle.std.proofs.Common.{◌≡◌, ◌<◌, true, IfSome}
+use Rattle.isp_table_tests.proofs.grown.has_parts.Given as goal
+
+-- the store can be used, and the last leaf lies in the file
+abbrev pub invariant-loop-page : goal.invariant-loop-page
+invariant-loop-page g l = record {
+  usable : g.P.Pages.usable l.pages ≡ true;
+  shape : g.P.Pages.shape l.pages ≡ g.P.Pages.shape l.initial.pages;
+  inside : IfSome l.after (λ page. page.0 < (g.P.Pages.shape l.pages).pages);
+}
