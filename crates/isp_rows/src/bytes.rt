@@ -9,7 +9,7 @@ const PAGES_PLACE: usize = 1_314_816;
 const PAGE_BYTES: usize = 4_096;
 
 // Zeros for a file of so many pages.
-pub(crate) fn zeros(alloc: Global, count: &str) -> Result<Vec<u8>, AllocError> {
+fn zeros(alloc: Global, count: &str) -> Result<Vec<u8>, AllocError> {
     let pages = match count.parse::<u32>() {
         Ok(pages) => (pages as usize).min(65_536),
         Err(_) => 0,
@@ -17,6 +17,12 @@ pub(crate) fn zeros(alloc: Global, count: &str) -> Result<Vec<u8>, AllocError> {
     let mut disk = Vec::new(alloc);
     disk.resize(PAGES_PLACE + pages * PAGE_BYTES, 0)?;
     Ok(disk)
+}
+
+// A new disk in the place of the old one.
+pub(crate) fn renew(alloc: Global, disk: &mut Vec<u8>, count: &str) -> io::Result<()> {
+    *disk = zeros(alloc, count)?;
+    Ok(())
 }
 
 // A place and what is written behind it.
@@ -62,12 +68,13 @@ fn stands(disk: &[u8], place: usize, hex: &str) -> bool {
     true
 }
 
-pub(crate) fn poke(disk: &mut Vec<u8>, text: &str) {
+pub(crate) fn poke(disk: &mut Vec<u8>, text: &str) -> io::Result<()> {
     if let Some((place, hex)) = placed(text) {
         for i in 0..hex.len() / 2 {
             put_byte(disk, place.checked_add(i), byte_at(hex, i));
         }
     }
+    Ok(())
 }
 
 // Puts the byte at its place, where there are both.
@@ -91,7 +98,7 @@ pub(crate) fn scrambled(
     for (i, byte) in bytes.iter_mut().enumerate() {
         if from <= i {
             state = next_state(state);
-            *byte = (state >> 32) as u8;
+            *byte = (state % 256) as u8;
         }
     }
     Ok(bytes)

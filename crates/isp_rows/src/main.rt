@@ -24,35 +24,46 @@ mod on_disk;
 mod on_file;
 mod runs;
 
-use bytes::{poke, say_bytes, zeros};
+use bytes::{poke, renew, say_bytes};
 use on_disk::{say_counts, say_fails, say_random, say_run, say_words, say_words_fail};
 use on_file::{remove, say_file_bytes, say_file_run, say_file_words};
+use std::alloc::Global;
+use std::fs::Files;
 use std::io;
 
 fn main(rt: HostRuntime) -> io::Result<()> {
     let mut disk = Vec::new(rt.alloc());
     for line in rt.lines(rt.alloc()) {
         let line = line?;
-        let (command, rest) = parted(line.as_str());
-        match command.as_bytes() {
-            b"disk" => disk = zeros(rt.alloc(), rest)?,
-            b"words" => say_words(&rt, &mut disk, rest)?,
-            b"run" => say_run(&rt, &mut disk, rest, &[])?,
-            b"unread" => say_run(&rt, &mut disk, rest, &[1])?,
-            b"fails" => say_fails(&rt, &disk, rest)?,
-            b"fails_words" => say_words_fail(&rt, &disk, rest)?,
-            b"random" => say_random(&rt, &disk, rest)?,
-            b"counts" => say_counts(&rt, &disk, rest)?,
-            b"bytes" => say_bytes(&rt, &disk, rest)?,
-            b"poke" => poke(&mut disk, rest),
-            b"file_gone" => remove(&rt),
-            b"file_words" => say_file_words(&rt, rest)?,
-            b"file_run" => say_file_run(&rt, rest)?,
-            b"file_bytes" => say_file_bytes(&rt, &disk)?,
-            _ => println!(rt; "no command: {command}")?,
-        }
+        act(&rt, &mut disk, line.as_str())?;
     }
     Ok(())
+}
+
+// Does what a line says.
+fn act<R: Files + Print + Alloc<A = Global>>(
+    rt: &R,
+    disk: &mut Vec<u8>,
+    line: &str,
+) -> io::Result<()> {
+    let (command, rest) = parted(line);
+    match command.as_bytes() {
+        b"disk" => renew(rt.alloc(), disk, rest),
+        b"words" => say_words(rt, disk, rest),
+        b"run" => say_run(rt, disk, rest, &[]),
+        b"unread" => say_run(rt, disk, rest, &[1]),
+        b"fails" => say_fails(rt, disk, rest),
+        b"fails_words" => say_words_fail(rt, disk, rest),
+        b"random" => say_random(rt, disk, rest),
+        b"counts" => say_counts(rt, disk, rest),
+        b"bytes" => say_bytes(rt, disk, rest),
+        b"poke" => poke(disk, rest),
+        b"file_gone" => remove(rt),
+        b"file_words" => say_file_words(rt, rest),
+        b"file_run" => say_file_run(rt, rest),
+        b"file_bytes" => say_file_bytes(rt, disk),
+        _ => println!(rt; "no command: {command}"),
+    }
 }
 
 // The first word of a line, and what stands behind it and a blank.

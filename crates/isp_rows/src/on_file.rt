@@ -13,8 +13,9 @@ use std::{fs, io};
 const FILE: &str = "rows.db";
 
 // Removes the file, if there is one.
-pub(crate) fn remove<R: Files>(rt: &R) {
+pub(crate) fn remove<R: Files>(rt: &R) -> io::Result<()> {
     let _ = fs::remove_file(rt, FILE);
+    Ok(())
 }
 
 // Runs the program with the words and this script on the file. It prints to standard output.
