@@ -56,5 +56,7 @@ pub(crate) fn say_ends<R: Print + Alloc<A = Global>>(rt: &R, ends: Ends) -> io::
     let disk = ends.disk_faults;
     let print = ends.print_faults;
     let others = ends.others;
-    println!(rt; "  {done} done, {damaged} damaged, {disk} disk faults, {print} print faults, {others} others")
+    println!(rt;
+        "  {done} done, {damaged} damaged, {disk} disk faults, {print} print faults, {others} others"
+    )
 }

@@ -42,7 +42,14 @@ pub(crate) fn say_run<R: Files + Print + Alloc<A = Global>>(
 ) -> io::Result<()> {
     let script = script_of(rt, name)?;
     let expected = printed_of(rt, name)?;
-    let ended = ran(rt.alloc(), disk.as_slice(), RUN, script.as_slice(), unread, &[])?;
+    let ended = ran(
+        rt.alloc(),
+        disk.as_slice(),
+        RUN,
+        script.as_slice(),
+        unread,
+        &[],
+    )?;
     let text = said_of(ended.printed.as_slice(), expected.as_slice());
     let left = left_of(ended.disk.as_slice(), disk.as_slice());
     let end = shown(rt.alloc(), ended.status)?;
@@ -106,8 +113,12 @@ fn say_failing<R: Print + Alloc<A = Global>>(
         first_print = first_of(first_print, call, ended.status);
     }
     let calls = whole.calls;
-    println!(rt; "  {calls} calls, the first sync is call {first_sync}, the first print {first_print}")?;
-    println!(rt; "  {stopped} ended at the call that failed, {fronts} printed a front of the whole")?;
+    println!(rt;
+        "  {calls} calls, the first sync is call {first_sync}, the first print {first_print}"
+    )?;
+    println!(rt;
+        "  {stopped} ended at the call that failed, {fronts} printed a front of the whole"
+    )?;
     say_ends(rt, ends)
 }
 
@@ -117,7 +128,10 @@ fn more_if(count: u64, is: bool) -> u64 {
 
 // Whether the one printed a front of what the other printed.
 fn is_front(ended: &Outcome, whole: &Outcome) -> bool {
-    whole.printed.as_slice().starts_with(ended.printed.as_slice())
+    whole
+        .printed
+        .as_slice()
+        .starts_with(ended.printed.as_slice())
 }
 
 // The first call that ends with a fault of the printer.
