@@ -121,3 +121,13 @@ StandFrom level bytes entries = (k : ℕ) (e : Entry) → slice_get entries k �
 -- a node's header with so many entries
 abbrev pub with_count : ℕ → Header → Header
 with_count count h = record h { count = count; used = entry_place count }
+
+-- so many entries end there
+abbrev pub IsEnd : ℕ → ℕ → Type 0
+IsEnd used count = used ≡ entry_place count
+
+-- the header of a node of that owner and of page q
+pub record SaysNode (owner q : ℕ) (h : Header) : Type 0 where
+  pub owner_is : h.owner ≡ owner
+  pub own : h.own ≡ q
+  pub used : IsEnd h.used h.count
