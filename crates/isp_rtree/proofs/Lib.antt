@@ -1,0 +1,4 @@
+mod MakeLaws
+mod PathLaws
+mod RemoveLaws
+pub mod TreeLaws

@@ -1,0 +1,5 @@
+pub mod Calls
+pub mod Making
+pub mod Paths
+pub mod Removing
+pub mod Trees
