@@ -1,5 +1,5 @@
 -- A tree that is made on a page that was taken.
-use Rattle.std.proofs.Common.{◌≡◌, inl, inr, ℕ, zero, suc, ◌+◌, ◌*◌, ◌<◌, ◌≤◌, ◌==◌, ◌||◌, Bool, true, false, cond, Option, Some, None, List, [], ◌∷◌, length, refl, sym, ◌∙◌, ap, subst, arith, eqb-true}
+use Rattle.std.proofs.Common.{◌≡◌, ℕ, ◌+◌, ◌*◌, ◌<◌, ◌≤◌, ◌==◌, ◌||◌, Bool, true, false, cond, Option, Some, None, List, [], ◌∷◌, length, refl, sym, ◌∙◌, ap, subst, arith, eqb-true}
 use Rattle.std.specs.Prelude.{All}
 use Rattle.isp_base.specs.Lists.{Has}
 use Rattle.isp_format.specs.Header.{Header, header_of}
@@ -10,11 +10,11 @@ use Rattle.isp_page.specs.State.{FileShape, is_among}
 use Rattle.isp_page.specs.Touched.{KeepsPages, is_page}
 use Rattle.isp_space.specs.Spaces.{IsSpace, Space, free_pages, next_free, next_of, space_page, taken}
 use Rattle.isp_space.proofs.TakingLaws.{page_0_stays, taken_space}
-use Rattle.isp_forest.specs.Tree.{Node, Tree, page_at}
+use Rattle.isp_forest.specs.Tree.{Node, page_at}
 use Rattle.isp_leaf_laws.proofs.StayLaws.{empty_forest}
 use Rattle.isp_rnode.specs.Nodes.{IsNode, entries_from, link_of, node_of}
 use Rattle.isp_rtree.specs.Making.{empty_header, empty_leaf, empty_tree}
-use Rattle.isp_rtree.specs.Trees.{IsTreeAt, IsTreeIn}
+use Rattle.isp_rtree.specs.Trees.{IsTreeAt}
 
 -- a page with that header is a leaf without entries
 empty_means : (bytes : List ℕ) (h : Header) → header_of bytes ≡ h → h.count ≡ 0 → node_of bytes ≡ record { level = h.level; ssn = h.ssn; next = link_of h.next; entries = [] }

@@ -1,5 +1,5 @@
 -- A path, page by page.
-use Rattle.std.proofs.Common.{◌≡◌, ◌⊎◌, inl, inr, ℕ, zero, suc, ◌+◌, ◌-◌, ◌<◌, ◌≤◌, ◌==◌, Option, Some, None, true, false, List, [], ◌∷◌, ◌++◌, length, map, drop, take, get_or, eqb-true, eq-eqb, refl, sym, ◌∙◌, ap, subst, arith}
+use Rattle.std.proofs.Common.{◌≡◌, ℕ, suc, ◌+◌, ◌-◌, ◌<◌, ◌≤◌, ◌==◌, Option, Some, None, true, false, List, [], ◌∷◌, length, drop, take, get_or, eqb-true, eq-eqb, refl, sym, ◌∙◌, ap, subst, arith}
 use Rattle.std.specs.Prelude.{◌↔◌, Bool, IfSome, is_none, not}
 use Rattle.std.specs.Option.{is_some}
 use Rattle.std.proofs.lemmas.List.{drop_all, drop_more, take_all}
@@ -9,8 +9,7 @@ use Rattle.isp_format.specs.Header.{header_of}
 use Rattle.isp_format.specs.Ranges.{Contents, page_of}
 use Rattle.isp_page.specs.State.{FileShape}
 use Rattle.isp_forest.specs.declared.entry.Entry.{Entry}
-use Rattle.isp_forest.specs.Forest.{Forest}
-use Rattle.isp_forest.specs.Place.{EndsOnLeaf, IsPath, Names, Stands, StartsAt}
+use Rattle.isp_forest.specs.Place.{IsPath, Names, Stands}
 use Rattle.isp_forest.specs.Tree.{Node, Tree, child_of, page_at}
 use Rattle.isp_laws.proofs.ForestLaws.{same_page}
 use Rattle.isp_page.specs.declared.fault.StoreFault.{StoreFault}

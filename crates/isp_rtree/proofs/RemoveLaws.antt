@@ -1,6 +1,6 @@
 -- An entry that is taken out of its leaf.
-use Rattle.std.proofs.Common.{◌≡◌, inl, inr, ℕ, zero, suc, ◌+◌, ◌<◌, ◌≤◌, ◌==◌, ◌||◌, Bool, true, false, cond, Option, Some, None, List, [], ◌∷◌, ◌++◌, length, take, get_or, refl, sym, ◌∙◌, ap, subst, arith, eqb-true}
-use Rattle.std.specs.Prelude.{filter, is_none, not, slice_get}
+use Rattle.std.proofs.Common.{◌≡◌, inl, inr, ℕ, suc, ◌+◌, ◌≤◌, ◌==◌, ◌||◌, Bool, true, false, cond, Some, List, [], ◌∷◌, ◌++◌, length, take, get_or, refl, sym, ◌∙◌, ap, subst, arith, eqb-true}
+use Rattle.std.specs.Prelude.{is_none, not, slice_get}
 use Rattle.std.proofs.lemmas.Bool.Decides.{nat_tests}
 use Rattle.std.proofs.lemmas.List.{append-nil, take_more}
 use Rattle.std.proofs.lemmas.List.Elements.{filter-append}
@@ -11,7 +11,6 @@ use Rattle.isp_format.specs.Ranges.{Contents, page_of}
 use Rattle.isp_page.specs.State.{FileShape, is_among}
 use Rattle.isp_page.specs.Touched.{KeepsPages}
 use Rattle.isp_forest.specs.declared.entry.Entry.{Entry}
-use Rattle.isp_forest.specs.Forest.{Forest}
 use Rattle.isp_forest.specs.Steps.{is_row, remove, without}
 use Rattle.isp_forest.specs.Tree.{Node, Tree, child_of, page_at}
 use Rattle.isp_laws.proofs.ForestLaws.{same_page}
@@ -22,7 +21,7 @@ use Rattle.isp_rnode.specs.Nodes.{IsNode, entry_in, entry_place, node_of, to_in}
 use Rattle.isp_rnode.proofs.NodeLaws.{entry_there}
 use Rattle.isp_rnode.proofs.PutLaws.{Placed, there_has}
 use Rattle.isp_rtree.specs.Removing.{IsAlone, others_of}
-use Rattle.isp_rtree.specs.Trees.{IsTreeAt, IsTreeIn}
+use Rattle.isp_rtree.specs.Trees.{IsTreeAt}
 
 -- entries that all have other numbers stay
 all_others : (number : ℕ) (es : List Entry) → ((e : Entry) → Has es e → is_row number e.to ≡ true → ⊥) → others_of number es ≡ es

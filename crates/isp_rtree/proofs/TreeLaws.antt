@@ -13,7 +13,7 @@ use Rattle.isp_forest.specs.Place.{Names}
 use Rattle.isp_forest.specs.Tree.{Node, Tree, child_of, numbers, page_at}
 use Rattle.isp_laws.proofs.ForestLaws.{child_there}
 use Rattle.isp_laws.proofs.ListLaws.{no_longer}
-use Rattle.isp_laws.proofs.PageLaws.{There, there_of_times, times_there}
+use Rattle.isp_laws.proofs.PageLaws.{There, there_of_times}
 use Rattle.isp_leaf_laws.proofs.DepthLaws.{deep_is_large}
 use Rattle.isp_rnode.specs.Nodes.{IsNode, link_of, node_of}
 use Rattle.isp_rtree.specs.Trees.{IsAtPage, IsInside, IsPageOf, IsRootOf, IsTreeAt, IsTreeIn, KeepsTree}

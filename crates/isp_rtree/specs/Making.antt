@@ -1,5 +1,5 @@
 -- A tree that is made.
-use Rattle.std.specs.Prelude.{◌≡◌, ℕ, ◌<◌, None, List, [], ◌∷◌, Result, IfErr, IfOk, OnOk}
+use Rattle.std.specs.Prelude.{◌≡◌, ℕ, ◌<◌, None, [], ◌∷◌, Result, IfErr, IfOk, OnOk}
 use Rattle.isp_base.specs.declared.page_no.PageNo.{PageNo}
 use Rattle.isp_format.specs.Header.{Header}
 use Rattle.isp_format.specs.Kinds.{content_place, rtree_kind}

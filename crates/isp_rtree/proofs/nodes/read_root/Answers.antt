@@ -1,4 +1,4 @@
-use Rattle.std.proofs.Common.{rules, ℕ, subst}
+use Rattle.std.proofs.Common.{rules, subst}
 use Rattle.isp_format.specs.Control.{IsPages}
 use Rattle.isp_format.specs.Ranges.{page_of}
 use Rattle.isp_rtree.specs.Trees.{IsRootOf}

@@ -1,12 +1,11 @@
-use Rattle.std.proofs.Common.{rules, ℕ, ◌≡◌, ◌+◌, ◌<◌, suc, List, ◌∷◌, drop, get_or, Option, Some, false, true, refl, sym, ◌∙◌, ap, subst}
-use Rattle.std.specs.Prelude.{IsTrue}
+use Rattle.std.proofs.Common.{rules, ℕ, ◌≡◌, ◌+◌, ◌<◌, suc, List, ◌∷◌, drop, get_or, Option, false, true, refl, sym, ◌∙◌, ap, subst}
 use Rattle.isp_base.specs.declared.page_no.PageNo.{PageNo}
 use Rattle.isp_format.specs.Header.{header_of}
 use Rattle.isp_format.specs.Ranges.{Contents, page_of}
 use Rattle.isp_page.specs.State.{FileShape}
 use Rattle.isp_rnode.specs.Nodes.{node_of}
 use Rattle.isp_rtree.specs.Paths.{Leads, LeadsTo, numbers_of}
-use Rattle.isp_rtree.specs.Trees.{IsInside, IsPageOf, IsRead}
+use Rattle.isp_rtree.specs.Trees.{IsInside, IsPageOf}
 use Rattle.isp_rtree.proofs.PathLaws.{Below, ahead, below_of, is_there, isnt_there, names_page, none_ahead, none_is, some_leads, way_ends, way_leaf, way_on, zero_iff}
 use Rattle.isp_rtree.proofs.paths.leads.Goals as goal
 
@@ -43,9 +42,11 @@ loop-next-preserved g c =
       contents = λ tells. w.reads.contents tells ∙ inv.contents tells;
       mini = w.reads.mini ∙ inv.mini;
       is = subst (λ (q : ℕ). IsPageOf (g.P.Pages.shape c.args.pages.now).pages c.args.owner q c.read_below.new.into.bytes) (sym is.node.own) is;
-      way = λ tells tree from at. (let way = inv.way tells tree from at in
-          (next.0, way_on (g.P.Pages.contents c.args.pages.now) (g.P.Pages.shape c.args.pages.now) c.args.owner tree at.is way.0 next.0 c.loop-next.page.bytes c.read_below.new.into.bytes (from ∷ numbers_of rest) (numbers_of (drop k rest)) (numbers_of (drop (k + 1) rest)) (ahead rest k none c.loop-next-test.true) leads
-          (w.page tells ∙ ap (λ (x : Contents). page_of x next.0) (inv.contents tells)) way.1));
+      way = λ tells tree from at. (let way = inv.way tells tree from at in (
+        next.0,
+        way_on (g.P.Pages.contents c.args.pages.now) (g.P.Pages.shape c.args.pages.now) c.args.owner tree at.is way.0 next.0 c.loop-next.page.bytes c.read_below.new.into.bytes (from ∷ numbers_of rest) (numbers_of (drop k rest)) (numbers_of (drop (k + 1) rest)) (ahead rest k none c.loop-next-test.true) leads
+            (w.page tells ∙ ap (λ (x : Contents). page_of x next.0) (inv.contents tells)) way.1,
+      ));
     }
 
 pub returns-then-is_none-clause-leads : goal.returns-then-is_none-clause-leads
@@ -53,9 +54,10 @@ returns-then-is_none-clause-leads g c tells tree from at =
     let rest : List PageNo = c.args.rest.now in
     let k = c.loop-next.next-index in
     let next : PageNo = get_or rest k none in
-    let way = c.loop-next.invariant.way tells tree from at in
-    (λ no. absurd (let bad : false ≡ true = no in cc),
-      λ leads. absurd (way_ends (g.P.Pages.contents c.args.pages.now) (g.P.Pages.shape c.args.pages.now) c.args.owner tree at.is way.0 next.0 c.loop-next.page.bytes (from ∷ numbers_of rest) (numbers_of (drop k rest)) (numbers_of (drop (k + 1) rest)) (ahead rest k none c.loop-next-test.true) (c.entry_for.ensures.none (none_is c.entry_for.result (isnt_there c.entry_for.result c.is_none.result c.is_none.ensures c.if-is_none.true))) way.1 leads))
+    let way = c.loop-next.invariant.way tells tree from at in (
+      λ no. absurd (let bad : false ≡ true = no in cc),
+      λ leads. absurd (way_ends (g.P.Pages.contents c.args.pages.now) (g.P.Pages.shape c.args.pages.now) c.args.owner tree at.is way.0 next.0 c.loop-next.page.bytes (from ∷ numbers_of rest) (numbers_of (drop k rest)) (numbers_of (drop (k + 1) rest)) (ahead rest k none c.loop-next-test.true) (c.entry_for.ensures.none (none_is c.entry_for.result (isnt_there c.entry_for.result c.is_none.result c.is_none.ensures c.if-is_none.true))) way.1 leads),
+    )
 
 pub returns-clause-leads : goal.returns-clause-leads
 returns-clause-leads g c tells tree from at =

@@ -1,9 +1,6 @@
-use Rattle.std.proofs.Common.{arith, ap, take, refl, sym, ◌∙◌, ◌≤◌, length}
-use Rattle.std.specs.Prelude.{slice_get}
-use Rattle.std.proofs.lemmas.List.{take_all}
+use Rattle.std.proofs.Common.{arith}
 use Rattle.isp_rnode.specs.Nodes.{node_of}
 use Rattle.isp_rnode.proofs.NodeLaws.{count_is}
-use Rattle.isp_rtree.specs.Removing.{others_of}
 use Rattle.isp_rtree.proofs.RemoveLaws.{others_more}
 use Rattle.isp_rtree.proofs.removing.copy_others.Goals as goal
 
