@@ -1,3 +1,4 @@
+mod GrowLaws
 mod MakeLaws
 mod PathLaws
 mod RemoveLaws

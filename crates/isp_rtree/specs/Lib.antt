@@ -1,4 +1,5 @@
 pub mod Calls
+pub mod Growing
 pub mod Making
 pub mod Paths
 pub mod Removing

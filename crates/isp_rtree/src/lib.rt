@@ -5,16 +5,19 @@
 //! - `nodes`: a page that is read and tested.
 //! - `visiting`: what is seen of a page.
 //! - `paths`: paths down a tree.
+//! - `growing`: what grows on one.
 //! - `making`: a tree is made.
 //! - `removing`: an entry is taken out.
 #![tactic(auto)]
 
+mod growing;
 mod making;
 mod nodes;
 mod paths;
 mod removing;
 mod visiting;
 
+pub use growing::{Growth, growths};
 pub use isp_forest::{Entry, Seen, To};
 pub use making::create;
 pub use paths::path_stands;

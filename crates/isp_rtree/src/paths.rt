@@ -16,8 +16,8 @@ use isp_format::{Page, PageNo, level_of};
 use isp_page::{Pages, StoreFault};
 use isp_rnode::{Entry, To, entry, entry_count};
 
-// The entry that names a page, if one does.
-fn entry_for(p: &Page, child: PageNo) -> Option<Entry>
+/// The entry that names a page, if one does.
+pub(crate) fn entry_for(p: &Page, child: PageNo) -> Option<Entry>
     requires { IsReadable p.now.bytes }
     ensures some { IfSome result (λ e. Has (node_of p.now.bytes).entries e × (child_of e ≡ Some child.0)) }
     ensures none { result ≡ None → (e : Entry) → Has (node_of p.now.bytes).entries e
