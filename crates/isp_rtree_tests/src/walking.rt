@@ -115,7 +115,7 @@ fn stands<P: Pages>(pages: &mut P, path: &[PageNo]) -> Result<bool, StoreFault>
 fn do_stand(alloc: Global) -> Result<bool, Fault> {
     let mut pages = MemPages::new(alloc, 128, 4, 0)?;
     write_all(alloc, &mut pages, &TREE)?;
-    for row in ROWS {
+    for row in &ROWS {
         let stands = stands(&mut pages, row.path)?;
         if stands != row.stands {
             return Ok(false);
