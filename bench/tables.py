@@ -3,7 +3,7 @@
 keys that rise and with keys that are drawn; 4,000 look-ups by key in tables of 1,000 to 64,000 rows; one SELECT of all rows; and
 the look-ups with 64 to 4,096 frames.
 
-usage: bench/tables.py FOLDER [ROUNDS]      (default: 3 rounds; the least of each size counts)
+usage: bench/tables.py FOLDER [ROUNDS]      (default: 15 rounds; the least of each size counts)
 
 Prints seconds, peak memory and, from size to size, the ratio; of loads also the written bytes a row, as the system counts them, and
 what one sync of a page takes on that folder's disk. A doubled table is to load and to be read whole in at most 2.3 times the time,
@@ -22,6 +22,7 @@ CREATE = "CREATE TABLE t (id BIGINT PRIMARY KEY, name VARCHAR(40));\n"
 LOADS = (1_000, 2_000, 4_000, 8_000, 16_000)
 SIZES = LOADS + (32_000, 64_000)
 LOOK_UPS = 4_000
+FRAMES = (64, 256, 1_024, 4_096)
 
 
 def row(key):
@@ -67,20 +68,42 @@ def made(folder, name):
     return path
 
 
-def run_of(path, lines, *options):
-    """The seconds, the peak memory in KiB and the written bytes of one run."""
+def started(path, lines, *options):
     script = script_file(lines)
     script.seek(0)
+    return subprocess.Popen([PROGRAM, path, "run", *options], stdin=script, stdout=subprocess.DEVNULL)
+
+
+def ended(child):
+    _, status, _ = os.wait4(child.pid, 0)
+    if status != 0:
+        sys.exit(f"the program ended with status {status}")
+
+
+def run_of(path, lines, *options):
+    """The seconds and the written bytes of one run."""
     begin = time.perf_counter()
-    child = subprocess.Popen([PROGRAM, path, "run", *options], stdin=script, stdout=subprocess.DEVNULL)
+    child = started(path, lines, *options)
     os.waitid(os.P_PID, child.pid, os.WEXITED | os.WNOWAIT)
     seconds = time.perf_counter() - begin
     with open(f"/proc/{child.pid}/io") as io:
         written = dict(line.split(": ") for line in io)["wchar"]
-    _, status, usage = os.wait4(child.pid, 0)
-    if status != 0:
-        sys.exit(f"the program ended with status {status}")
-    return seconds, usage.ru_maxrss, int(written)
+    ended(child)
+    return seconds, int(written)
+
+
+def peak_of(path, lines, *options):
+    """The most memory that one run had, in KiB, as it was last seen before the run ended. (What the system tells of a child that
+    has ended is never less than what its parent had.)"""
+    child = started(path, lines, *options)
+    peak = 0
+    while os.waitid(os.P_PID, child.pid, os.WEXITED | os.WNOWAIT | os.WNOHANG) is None:
+        with open(f"/proc/{child.pid}/status") as status:
+            for line in status:
+                if line.startswith("VmHWM"):
+                    peak = max(peak, int(line.split()[1]))
+    ended(child)
+    return peak
 
 
 def sync_time(folder):
@@ -98,17 +121,16 @@ def sync_time(folder):
     return sorted(taken)[50]
 
 
-def least(rounds, measure):
-    return min(measure() for _ in range(rounds))
-
-
-def print_sizes(title, measured, shown):
+def table(title, sizes, measure, rounds, shown):
+    """The sizes are run in turn, round by round, so that a slow moment of the machine does not fall on one of them."""
     print(title)
+    runs = [[measure(size) for size in sizes] for _ in range(rounds)]
     before = None
-    for size, value in measured:
-        ratio = "" if before is None else f"  x{value[0] / before:.2f}"
-        print(f"  {size:>7}  {shown(size, value)}{ratio}")
-        before = value[0]
+    for size, measured in zip(sizes, zip(*runs)):
+        least = min(measured)
+        ratio = "" if before is None else f"  x{least[0] / before:.2f}"
+        print(f"  {size:>7}  {shown(size, least)}{ratio}")
+        before = least[0]
 
 
 def main():
@@ -117,26 +139,35 @@ def main():
     if not os.path.exists(PROGRAM):
         sys.exit("build the program first: ./isp")
     folder = sys.argv[1]
-    rounds = int(sys.argv[2]) if len(sys.argv) > 2 else 3
+    rounds = int(sys.argv[2]) if len(sys.argv) > 2 else 15
     print(f"one sync of a page: {sync_time(folder) * 1e6:.0f} us")
     for drawn in (False, True):
-        found = [(rows, least(rounds, lambda: run_of(made(folder, "load.db"), load(rows, drawn)))) for rows in LOADS]
         title = "load, in INSERTs of 50 rows, keys " + ("drawn" if drawn else "rising")
-        print_sizes(title, found, lambda rows, v: f"{v[0]:8.3f} s  {v[2] / rows:8.0f} bytes a row")
-    files = []
+        table(title, LOADS, lambda rows: run_of(made(folder, "load.db"), load(rows, drawn)), rounds,
+              lambda rows, v: f"{v[0]:8.3f} s  {v[1] / rows:8.0f} bytes a row")
+    files = {}
     for rows in SIZES:
-        path = made(folder, f"rows-{rows}.db")
-        run_of(path, load(rows, False))
-        files.append((rows, path))
-    idle = least(rounds, lambda: run_of(files[0][1], nothing()))[0]
-    found = [(rows, least(rounds, lambda: run_of(path, look_ups(rows)))) for rows, path in files]
-    print_sizes(f"{LOOK_UPS} look-ups by key, in tables of rows", found, lambda rows, v: f"{v[0]:8.3f} s  {(v[0] - idle) / LOOK_UPS * 1e6:8.1f} us each")
-    found = [(rows, least(rounds, lambda: run_of(path, scan()))) for rows, path in files]
-    print_sizes("one SELECT of all rows", found, lambda rows, v: f"{v[0]:8.3f} s")
-    rows, path = files[-1]
-    found = [(frames, least(rounds, lambda: run_of(path, look_ups(rows), "--frames", str(frames)))) for frames in (64, 256, 1_024, 4_096)]
-    print_sizes(f"the look-ups among {rows} rows, with frames", found, lambda frames, v: f"{v[0]:8.3f} s  {v[1] / 1024:8.1f} MiB")
-    for _, path in files:
+        files[rows] = made(folder, f"rows-{rows}.db")
+        run_of(files[rows], load(rows, False))
+    idle = min(run_of(files[SIZES[0]], nothing())[0] for _ in range(rounds))
+
+    def looked_up(rows):
+        seconds, written = run_of(files[rows], look_ups(rows))
+        return seconds - idle, written
+
+    table(f"{LOOK_UPS} look-ups by key, in tables of rows", SIZES, looked_up, rounds, lambda rows, v: f"{v[0] / LOOK_UPS * 1e6:8.1f} us each")
+    table("one SELECT of all rows", SIZES, lambda rows: run_of(files[rows], scan()), rounds, lambda rows, v: f"{v[0]:8.4f} s")
+    rows = SIZES[-1]
+
+    def with_frames(frames):
+        return run_of(files[rows], look_ups(rows), "--frames", str(frames))
+
+    def peak(frames):
+        return peak_of(files[rows], look_ups(rows), "--frames", str(frames))
+
+    table(f"the look-ups among {rows} rows, with frames", FRAMES, with_frames, rounds,
+          lambda frames, v: f"{v[0]:8.4f} s  {peak(frames) / 1024:8.1f} MiB")
+    for path in files.values():
         os.remove(path)
     os.remove(os.path.join(folder, "load.db"))
 
