@@ -10,8 +10,8 @@ use std::alloc::{AllocError, Global};
 use std::fs::Files;
 use std::{fs, io};
 
-// The words of a run.
-pub(crate) const RUN: &str = "rows.db run";
+// The words of a run, with as few frames as there may be.
+pub(crate) const RUN: &str = "rows.db run --frames 64";
 
 pub(crate) fn script_of<R: Files + Alloc<A = Global>>(rt: &R, name: &str) -> io::Result<Vec<u8>> {
     let path = format!(in rt.alloc(); "{name}.isp")?;

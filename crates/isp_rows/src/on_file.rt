@@ -1,13 +1,16 @@
 //! Rows on a real file in the program's folder.
 
 use crate::bytes::is_all_of;
-use crate::on_disk::{RUN, script_of};
+use crate::on_disk::script_of;
 use crate::runs::{shown, words_of};
 use isp_disk::{FileWorld, MemSource};
 use isp_run::{Status, run};
 use std::alloc::Global;
 use std::fs::Files;
 use std::{fs, io};
+
+// The words of a run.
+const RUN: &str = "rows.db run";
 
 // The file.
 const FILE: &str = "rows.db";
