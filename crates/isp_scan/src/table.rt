@@ -15,7 +15,6 @@ use crate::held::held_in;
 use isp_catalog::TableDef;
 use isp_clustered::{Leaf, next_leaf};
 use isp_format::PageNo;
-use isp_levels::broken;
 use isp_page::{Fault, Pages, StoreFault};
 use isp_plain::{Condition, Rows};
 use isp_row::RowError;
@@ -80,7 +79,7 @@ fn scan_leaf<P: Pages>(
 /// # Errors
 ///
 /// Disk; want of memory; or Damaged, as of `next_leaf` of isp_clustered; with a leaf and rule 8, where bytes on it spell no row of
-/// the table; or with a leaf and rule 7, where more leaves come one behind the other than the file has pages.
+/// the table; or with the leaf that was read last and rule 13, where more leaves come one behind the other than the file has pages.
 pub fn scan<P: Pages>(
     alloc: Global,
     pages: &mut P,
@@ -108,5 +107,8 @@ pub fn scan<P: Pages>(
             return Ok(rows);
         }
     }
-    Err(Fault::Store(broken(after.unwrap_or(def.root))))
+    Err(Fault::Store(StoreFault::Damaged {
+        page: after.unwrap_or(def.root).0,
+        rule: 13,
+    }))
 }
