@@ -3,6 +3,7 @@ use Rattle.std.specs.Prelude.{◌≡◌, ℕ, ◌+◌, ◌≤◌, ℤ, Bool, fal
 use Rattle.std.specs.Ordering.{int_eq}
 use Rattle.std.specs.List.{flat_map}
 use Rattle.isp_disk.specs.Moments.{Image, slice}
+use Rattle.isp_format.specs.Kinds.{content_place}
 use Rattle.isp_format.specs.Leaf.{IsStored, Stored, slot_of, stored_bytes, stored_head}
 use Rattle.isp_cells.specs.declared.cells.Cell.{Cell}
 use Rattle.isp_cells.specs.declared.cells.Place.{Place}
@@ -28,9 +29,9 @@ place_in key at [] = record { at = at; here = None }
 place_in key at (s ∷ rows) = if int_lt s.key key then place_in key (at + stored_head + slot_of s) rows
     else record { at = at; here = if int_eq s.key key then Some (cell_of s) else None }
 
--- the place lies among rows that begin at 64 and end there, and a row that stands there ends before
+-- the place lies among rows that begin where the content of a page does and end there, and a row that stands there ends before
 pub record IsPlaceWithin (used : ℕ) (place : Place) : Type 0 where
-  pub from : 64 ≤ place.at
+  pub from : content_place ≤ place.at
   pub to : place.at ≤ used
   pub here : IfSome place.here (IsWithin place.at used)
 

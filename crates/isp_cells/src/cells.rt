@@ -4,7 +4,9 @@ ghost use Rattle.std.specs.Int.{cast_signed, w64};
 ghost use Rattle.std.specs.Ordering.{int_eq};
 ghost use Rattle.isp_disk.specs.Moments.{image_of, slice};
 ghost use Rattle.isp_format.specs.Header.{number_in};
+ghost use Rattle.isp_format.specs.Kinds.{content_place};
 ghost use Rattle.isp_format.specs.Leaf.{Stored};
+ghost use Rattle.isp_format.specs.Ranges.{page_bytes};
 ghost use Rattle.isp_cells.specs.Cells.{IsPlaceWithin, IsWithin, Stand, cell_of, place_in};
 
 use isp_format::{
@@ -28,7 +30,7 @@ pub struct Place {
 
 /// So many bytes of the page from `at` on.
 pub fn piece(p: &Page, at: usize, size: usize) -> &[u8]
-    requires inside { at + size ≤ 4096 }
+    requires inside { at + size ≤ page_bytes }
     ensures { result.now ≡ slice (image_of p.now.bytes) at size }
 {
     &p.bytes[at..at + size]
@@ -36,7 +38,7 @@ pub fn piece(p: &Page, at: usize, size: usize) -> &[u8]
 
 /// The row that stands there and ends at `used` or before it, if one does.
 pub fn cell_at(p: &Page, at: usize, used: usize) -> Option<Cell>
-    requires inside { used ≤ 4096 }
+    requires inside { used ≤ page_bytes }
     ensures within { IfSome result (λ cell. IsWithin at used cell) }
     ensures stands { (s : Stored) (rows : List Stored)
         → Stand (image_of p.now.bytes) at used (s ∷ rows) → result ≡ Some (cell_of s) }
@@ -58,7 +60,7 @@ pub fn cell_at(p: &Page, at: usize, used: usize) -> Option<Cell>
 
 // Whether the key that stands there is below this one.
 fn is_below(p: &Page, at: usize, key: i64) -> bool
-    requires inside { at + 8 ≤ 4096 }
+    requires inside { at + 8 ≤ page_bytes }
     ensures { result ≡ int_lt (cast_signed w64 (number_in 8 p.now.bytes at)) key }
 {
     get_i64(p, at) < key
@@ -66,7 +68,7 @@ fn is_below(p: &Page, at: usize, key: i64) -> bool
 
 // Whether it is this one.
 fn is_key(p: &Page, at: usize, key: i64) -> bool
-    requires inside { at + 8 ≤ 4096 }
+    requires inside { at + 8 ≤ page_bytes }
     ensures { result ≡ int_eq (cast_signed w64 (number_in 8 p.now.bytes at)) key }
 {
     get_i64(p, at) == key
@@ -81,11 +83,11 @@ fn only_if(is: bool, cell: Cell) -> Option<Cell>
 
 /// Where the row of a key stands or would stand among the rows of a leaf, if rows stand there.
 pub fn place_of(p: &Page, used: usize, key: i64) -> Option<Place>
-    requires from { 64 ≤ used }
-    requires inside { used ≤ 4096 }
+    requires from { content_place ≤ used }
+    requires inside { used ≤ page_bytes }
     ensures within { IfSome result (λ place. IsPlaceWithin used place) }
-    ensures place { (rows : List Stored) → Stand (image_of p.now.bytes) 64 used rows
-        → result ≡ Some (place_in key 64 rows) }
+    ensures place { (rows : List Stored) → Stand (image_of p.now.bytes) content_place used rows
+        → result ≡ Some (place_in key content_place rows) }
 {
     let mut at = CONTENT_PLACE;
     while at < used {

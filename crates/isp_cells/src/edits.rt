@@ -2,27 +2,30 @@
 ghost use Rattle.std.specs.Prelude.{◌≡◌, ◌+◌, ◌-◌, ◌≤◌, ◌++◌, ◌<◌, ℕ, ℤ, List, All, Some, IfSome, is_none, nat_le, not, length, true, false};
 ghost use Rattle.std.specs.List.{flat_map};
 ghost use Rattle.isp_disk.specs.Moments.{image_of, slice};
-ghost use Rattle.isp_format.specs.Header.{number_in};
-ghost use Rattle.isp_format.specs.Leaf.{IsStored, Stored, mark_byte, stored_bytes};
+ghost use Rattle.isp_format.specs.Header.{header_of};
+ghost use Rattle.isp_format.specs.Kinds.{content_place};
+ghost use Rattle.isp_format.specs.Leaf.{IsStored, Stored, mark_byte, most_slot, stored_bytes, stored_head};
+ghost use Rattle.isp_format.specs.Ranges.{page_bytes};
 ghost use Rattle.isp_cells.specs.Cells.{IsPlaceWithin, IsWithin, count_of, end_of, marked_in, place_in};
 ghost use Rattle.isp_cells.specs.Rows.{bytes_in, can_drop, can_rewrite, exchanged, find, has_key, is_fitting, marked_at, rewritten, with_put, with_row, without};
 ghost use Rattle.isp_cells.specs.LeafPages.{IsLeaf};
 
 use crate::cells::{Cell, Place, piece, place_of};
 use isp_format::{
-    Head, LENGTH_PLACE, MARK_PLACE, PAGE_BYTES, Page, SLOT_PLACE, STORED_HEAD, get_u16, head,
+    Head, LENGTH_PLACE, MARK_PLACE, PAGE_BYTES, Page, SLOT_PLACE, STORED_HEAD, count_of, head,
     put_bytes, put_u16, put_u64, set_head,
 };
 
 // The page with a piece in the place of the bytes from `at` to `end`, and behind it what stood from there to `used`.
 fn spliced(old: &Page, at: usize, end: usize, used: usize, put: &[u8], count: u16) -> Page
-    requires from { 64 ≤ at }
+    requires from { content_place ≤ at }
     requires order { (at ≤ end) × (end ≤ used) }
-    requires to { used ≤ 4096 }
-    requires fits { at + length put.now + (used - end) ≤ 4096 }
+    requires to { used ≤ page_bytes }
+    requires fits { at + length put.now + (used - end) ≤ page_bytes }
     ensures leaf { (table own next : ℕ) (before mid after rows : List Stored)
         → IsLeaf old.now.bytes table own next (before ++ (mid ++ after))
-        → at ≡ 64 + bytes_in before → end ≡ at + bytes_in mid → used ≡ end + bytes_in after
+        → at ≡ content_place + bytes_in before → end ≡ at + bytes_in mid
+        → used ≡ end + bytes_in after
         → put.now ≡ flat_map stored_bytes rows → All IsStored rows
         → count ≡ length (before ++ (rows ++ after))
         → IsLeaf result.bytes table own next (before ++ (rows ++ after)) }
@@ -48,8 +51,8 @@ fn mark_byte(marked: bool) -> u8
 
 /// A row as it stands on a leaf, in a slot of its length and that of the bytes behind it, at the front of a page.
 pub fn spelled(key: i64, marked: bool, row: &[u8], rest: &[u8]) -> Page
-    requires slot { length row.now + length rest.now ≤ 4019 }
-    ensures { slice (image_of result.bytes) 0 (13 + (length row.now + length rest.now))
+    requires slot { length row.now + length rest.now ≤ page_bytes - stored_head }
+    ensures { slice (image_of result.bytes) 0 (stored_head + (length row.now + length rest.now))
         ≡ stored_bytes (record { key = key; marked = marked; row = row.now; rest = rest.now }) }
 {
     let mut p = Page::zeros();
@@ -64,7 +67,7 @@ pub fn spelled(key: i64, marked: bool, row: &[u8], rest: &[u8]) -> Page
 
 /// Where a place ends: behind the row that stands there, if one does.
 pub fn place_end(at: usize, here: Option<Cell>) -> usize
-    requires { at + 13 + 65535 < 18446744073709551616 }
+    requires { at + stored_head + 65535 < 18446744073709551616 }
     ensures { result ≡ end_of at here }
 {
     match here {
@@ -76,9 +79,10 @@ pub fn place_end(at: usize, here: Option<Cell>) -> usize
 /// Whether a row of so many bytes has room at a place.
 pub fn is_room(place: Place, used: usize, size: usize) -> bool
     requires within { IsPlaceWithin used place }
-    requires inside { used ≤ 4096 }
-    requires size { size ≤ 1000 }
-    ensures { result ≡ nat_le (place.at + 13 + size + (used - end_of place.at place.here)) 4096 }
+    requires inside { used ≤ page_bytes }
+    requires size { size ≤ most_slot }
+    ensures { result ≡ nat_le (place.at + stored_head + size + (used - end_of place.at place.here))
+        page_bytes }
 {
     let behind = used - place_end(place.at, place.here);
     place.at + STORED_HEAD + size + behind <= PAGE_BYTES
@@ -86,10 +90,10 @@ pub fn is_room(place: Place, used: usize, size: usize) -> bool
 
 /// How many rows there are once a row stands at a place.
 pub fn count_with(old: &Page, place: Place) -> u16
-    ensures { (others : ℕ) → number_in 2 old.now.bytes 2 ≡ count_of place.here + others
+    ensures { (others : ℕ) → (header_of old.now.bytes).count ≡ count_of place.here + others
         → others < 65535 → result ≡ 1 + others }
 {
-    let count = get_u16(old, 2);
+    let count = count_of(old);
     match place.here {
         Some(_) => count,
         None => count.saturating_add(1),
@@ -98,10 +102,10 @@ pub fn count_with(old: &Page, place: Place) -> u16
 
 // The same once none stands there.
 fn count_without(old: &Page, place: Place) -> u16
-    ensures { (others : ℕ) → number_in 2 old.now.bytes 2 ≡ count_of place.here + others
+    ensures { (others : ℕ) → (header_of old.now.bytes).count ≡ count_of place.here + others
         → result ≡ others }
 {
-    let count = get_u16(old, 2);
+    let count = count_of(old);
     match place.here {
         Some(_) => count.saturating_sub(1),
         None => count,
@@ -111,14 +115,15 @@ fn count_without(old: &Page, place: Place) -> u16
 // The page once a row is put at the place of its key, where it has room.
 fn put_at(old: &Page, used: usize, key: i64, place: Place, row: &[u8]) -> Option<Page>
     requires within { IsPlaceWithin used place }
-    requires inside { used ≤ 4096 }
-    requires row { length row.now ≤ 1000 }
+    requires inside { used ≤ page_bytes }
+    requires row { length row.now ≤ most_slot }
     ensures page { (table own next : ℕ) (rows : List Stored)
         → IsLeaf old.now.bytes table own next rows
-        → used ≡ 64 + length (flat_map stored_bytes rows) → place ≡ place_in key 64 rows
+        → used ≡ content_place + length (flat_map stored_bytes rows)
+        → place ≡ place_in key content_place rows
         → IfSome result (λ new. IsLeaf new.bytes table own next (with_put key row.now rows)) }
-    ensures some { nat_le (place.at + 13 + length row.now + (used - end_of place.at place.here))
-        4096 ≡ true
+    ensures some { nat_le (place.at + stored_head + length row.now
+        + (used - end_of place.at place.here)) page_bytes ≡ true
         → is_none result ≡ false }
 {
     if !is_room(place, used, row.len()) {
@@ -133,16 +138,16 @@ fn put_at(old: &Page, used: usize, key: i64, place: Place, row: &[u8]) -> Option
 
 /// The page of a leaf once a row is put into it, where it is one and the row has room.
 pub fn put_in(old: &Page, used: usize, key: i64, row: &[u8]) -> Option<Page>
-    requires from { 64 ≤ used }
-    requires inside { used ≤ 4096 }
-    requires row { length row.now ≤ 1000 }
+    requires from { content_place ≤ used }
+    requires inside { used ≤ page_bytes }
+    requires row { length row.now ≤ most_slot }
     ensures page { (table own next : ℕ) (rows : List Stored)
         → IsLeaf old.now.bytes table own next rows
-        → used ≡ 64 + length (flat_map stored_bytes rows)
+        → used ≡ content_place + length (flat_map stored_bytes rows)
         → IfSome result (λ new. IsLeaf new.bytes table own next (with_put key row.now rows)) }
     ensures some { (table own next : ℕ) (rows : List Stored)
         → IsLeaf old.now.bytes table own next rows
-        → used ≡ 64 + length (flat_map stored_bytes rows)
+        → used ≡ content_place + length (flat_map stored_bytes rows)
         → is_fitting key (length row.now) rows ≡ true
         → is_none result ≡ false }
 {
@@ -155,10 +160,11 @@ pub fn put_in(old: &Page, used: usize, key: i64, row: &[u8]) -> Option<Page>
 // The page once the row of a place is taken out.
 fn drop_at(old: &Page, used: usize, place: Place) -> Page
     requires within { IsPlaceWithin used place }
-    requires inside { used ≤ 4096 }
+    requires inside { used ≤ page_bytes }
     ensures { (table own next : ℕ) (key : ℤ) (rows : List Stored)
         → IsLeaf old.now.bytes table own next rows
-        → used ≡ 64 + length (flat_map stored_bytes rows) → place ≡ place_in key 64 rows
+        → used ≡ content_place + length (flat_map stored_bytes rows)
+        → place ≡ place_in key content_place rows
         → IsLeaf result.bytes table own next (without key rows) }
 {
     let end = place_end(place.at, place.here);
@@ -178,15 +184,15 @@ fn is_marked(place: Place) -> bool
 
 /// The page of a leaf once the row of a key is taken out, where it is one and has that row marked.
 pub fn drop_in(old: &Page, used: usize, key: i64) -> Option<Page>
-    requires from { 64 ≤ used }
-    requires inside { used ≤ 4096 }
+    requires from { content_place ≤ used }
+    requires inside { used ≤ page_bytes }
     ensures page { (table own next : ℕ) (rows : List Stored)
         → IsLeaf old.now.bytes table own next rows
-        → used ≡ 64 + length (flat_map stored_bytes rows)
+        → used ≡ content_place + length (flat_map stored_bytes rows)
         → IfSome result (λ new. IsLeaf new.bytes table own next (without key rows)) }
     ensures some { (table own next : ℕ) (rows : List Stored)
         → IsLeaf old.now.bytes table own next rows
-        → used ≡ 64 + length (flat_map stored_bytes rows)
+        → used ≡ content_place + length (flat_map stored_bytes rows)
         → is_none result ≡ not (can_drop key rows) }
 {
     match place_of(old, used, key) {
@@ -212,13 +218,14 @@ fn rewrite_at(
     marked: bool,
 ) -> Page
     requires within { IsWithin at used cell }
-    requires from { 64 ≤ at }
-    requires inside { used ≤ 4096 }
+    requires from { content_place ≤ at }
+    requires inside { used ≤ page_bytes }
     requires row { length row.now ≤ cell.slot }
     ensures { (table own next : ℕ) (rows : List Stored) (s : Stored)
         → IsLeaf old.now.bytes table own next rows
-        → used ≡ 64 + length (flat_map stored_bytes rows)
-        → record { at = at; here = Some cell } ≡ place_in key 64 rows → find key rows ≡ Some s
+        → used ≡ content_place + length (flat_map stored_bytes rows)
+        → record { at = at; here = Some cell } ≡ place_in key content_place rows
+        → find key rows ≡ Some s
         → IsLeaf result.bytes table own next (exchanged key (Some (rewritten row.now marked s))
         rows) }
 {
@@ -226,7 +233,7 @@ fn rewrite_at(
     let rest = piece(old, at + STORED_HEAD + row.len(), slot - row.len());
     let whole = spelled(key, marked, row, rest);
     let put = piece(&whole, 0, STORED_HEAD + slot);
-    spliced(old, at, at + STORED_HEAD + slot, used, put, get_u16(old, 2))
+    spliced(old, at, at + STORED_HEAD + slot, used, put, count_of(old))
 }
 
 // The same where the row stands at the place and its slot holds the new one.
@@ -239,12 +246,13 @@ fn rewrite_place(
     marked: bool,
 ) -> Option<Page>
     requires within { IsPlaceWithin used place }
-    requires inside { used ≤ 4096 }
+    requires inside { used ≤ page_bytes }
     ensures page { (table own next : ℕ) (rows : List Stored)
         → IsLeaf old.now.bytes table own next rows
-        → used ≡ 64 + length (flat_map stored_bytes rows) → place ≡ place_in key 64 rows
+        → used ≡ content_place + length (flat_map stored_bytes rows)
+        → place ≡ place_in key content_place rows
         → IfSome result (λ new. IsLeaf new.bytes table own next (with_row key row.now marked rows)) }
-    ensures some { (rows : List Stored) → place ≡ place_in key 64 rows
+    ensures some { (rows : List Stored) → place ≡ place_in key content_place rows
         → is_none result ≡ not (can_rewrite key (length row.now) rows) }
 {
     match place.here {
@@ -261,15 +269,15 @@ fn rewrite_place(
 
 /// The page of a leaf once a row is written into the slot of its key, where it is one and has that key and room in its slot.
 pub fn rewrite_in(old: &Page, used: usize, key: i64, row: &[u8], marked: bool) -> Option<Page>
-    requires from { 64 ≤ used }
-    requires inside { used ≤ 4096 }
+    requires from { content_place ≤ used }
+    requires inside { used ≤ page_bytes }
     ensures page { (table own next : ℕ) (rows : List Stored)
         → IsLeaf old.now.bytes table own next rows
-        → used ≡ 64 + length (flat_map stored_bytes rows)
+        → used ≡ content_place + length (flat_map stored_bytes rows)
         → IfSome result (λ new. IsLeaf new.bytes table own next (with_row key row.now marked rows)) }
     ensures some { (table own next : ℕ) (rows : List Stored)
         → IsLeaf old.now.bytes table own next rows
-        → used ≡ 64 + length (flat_map stored_bytes rows)
+        → used ≡ content_place + length (flat_map stored_bytes rows)
         → is_none result ≡ not (can_rewrite key (length row.now) rows) }
 {
     match place_of(old, used, key) {
@@ -281,12 +289,13 @@ pub fn rewrite_in(old: &Page, used: usize, key: i64, row: &[u8], marked: bool) -
 // The page once the row that stands at a place is marked.
 fn mark_place(old: &Page, used: usize, key: i64, place: Place) -> Option<Page>
     requires within { IsPlaceWithin used place }
-    requires inside { used ≤ 4096 }
+    requires inside { used ≤ page_bytes }
     ensures page { (table own next : ℕ) (rows : List Stored)
         → IsLeaf old.now.bytes table own next rows
-        → used ≡ 64 + length (flat_map stored_bytes rows) → place ≡ place_in key 64 rows
+        → used ≡ content_place + length (flat_map stored_bytes rows)
+        → place ≡ place_in key content_place rows
         → IfSome result (λ new. IsLeaf new.bytes table own next (marked_at key rows)) }
-    ensures some { (rows : List Stored) → place ≡ place_in key 64 rows
+    ensures some { (rows : List Stored) → place ≡ place_in key content_place rows
         → is_none result ≡ not (has_key key rows) }
 {
     match place.here {
@@ -300,15 +309,15 @@ fn mark_place(old: &Page, used: usize, key: i64, place: Place) -> Option<Page>
 
 /// The page of a leaf once the row of a key is marked, where it is one and has that key.
 pub fn mark_in(old: &Page, used: usize, key: i64) -> Option<Page>
-    requires from { 64 ≤ used }
-    requires inside { used ≤ 4096 }
+    requires from { content_place ≤ used }
+    requires inside { used ≤ page_bytes }
     ensures page { (table own next : ℕ) (rows : List Stored)
         → IsLeaf old.now.bytes table own next rows
-        → used ≡ 64 + length (flat_map stored_bytes rows)
+        → used ≡ content_place + length (flat_map stored_bytes rows)
         → IfSome result (λ new. IsLeaf new.bytes table own next (marked_at key rows)) }
     ensures some { (table own next : ℕ) (rows : List Stored)
         → IsLeaf old.now.bytes table own next rows
-        → used ≡ 64 + length (flat_map stored_bytes rows)
+        → used ≡ content_place + length (flat_map stored_bytes rows)
         → is_none result ≡ not (has_key key rows) }
 {
     match place_of(old, used, key) {

@@ -29,7 +29,7 @@ returns c table own next rows s leaf used_is place_is found =
     let key = to_z-of_z w64 c.args.key c.ranges.key in
     let piece_is : c.piece-put.result.now ≡ stored_bytes (rewritten row c.args.marked s) = c.piece-put.ensures ∙ ap (slice (image_of c.spelled-whole.result.bytes) 0) long ∙ c.spelled-whole.ensures ∙ (λ i. stored_bytes (record { key = key i; marked = c.args.marked; row = row; rest = c.piece-rest.result.now })) ∙ ap stored_bytes written.0 in
     let ends : c.args.at + 13 + c.from-slot.result ≡ c.args.at + 13 + c.args.cell.slot = omega (arith, slot) in
-    put_leaf old c.spliced.result.bytes table own next rows c.args.key c.args.used place _ c.piece-put.result.now (rewritten row c.args.marked s) c.get_u16.result parted (c.get_u16.ensures ∙ parted.counted) ends piece_is written.1 c.spliced.ensures.leaf
+    put_leaf old c.spliced.result.bytes table own next rows c.args.key c.args.used place _ c.piece-put.result.now (rewritten row c.args.marked s) c.count_of.result parted (c.count_of.ensures ∙ parted.counted) ends piece_is written.1 c.spliced.ensures.leaf
 
 pub spelled-whole-requires : goal.spelled-whole-requires
 spelled-whole-requires c =
