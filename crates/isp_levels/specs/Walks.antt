@@ -4,6 +4,7 @@ use Rattle.std.specs.Prelude.{◌≡◌, ℕ, ◌<◌, Result, IfErr, IfOk, OnOk
 use Rattle.isp_base.specs.declared.page_no.PageNo.{PageNo}
 use Rattle.isp_format.specs.Header.{header_of}
 use Rattle.isp_format.specs.Ranges.{page_of}
+use Rattle.isp_format.specs.Rules.{tree_rule}
 use Rattle.isp_page.specs.Calls.{Continues}
 use Rattle.isp_page.specs.declared.fault.StoreFault.{StoreFault}
 use Rattle.isp_page.specs.declared.fault.StoreFault.TheVariants.{Damaged, Disk, Print}
@@ -14,7 +15,7 @@ use Rattle.isp_cells.specs.LeafPages.{SaysTree}
 abbrev pub NamesAny : ℕ → StoreFault → Type 0
 NamesAny pages Disk = ⊤
 NamesAny pages Print = ⊤
-NamesAny pages (Damaged page rule) = (page < pages) × (rule ≡ 7)
+NamesAny pages (Damaged page rule) = (page < pages) × (rule ≡ tree_rule)
 
 -- A call that reads a page of a tree, which says that it is one where the call answers.
 pub record ReadsPage {S T : Type 0} (g : Ghosts S) (page : ℕ) (old new : S) (result : Result T StoreFault) : Type 0 where

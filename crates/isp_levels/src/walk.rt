@@ -3,6 +3,7 @@ ghost use Rattle.std.specs.Prelude.{◌≡◌, ◌<◌, ℕ, List, Some, true, I
 ghost use Rattle.isp_format.specs.Header.{header_of};
 ghost use Rattle.isp_format.specs.Inner.{IsInnerPage, Name};
 ghost use Rattle.isp_format.specs.Ranges.{page_of};
+ghost use Rattle.isp_format.specs.Rules.{tree_rule};
 ghost use Rattle.isp_page.specs.Steps.{IsNoDamage};
 ghost use Rattle.isp_page.specs.declared.fault.StoreFault.TheVariants.{Damaged};
 ghost use Rattle.isp_levels.specs.Inners.{SaysRoot, page_in_leaf, page_in_name};
@@ -18,7 +19,7 @@ pub const MOST_LEVELS: u8 = 15;
 
 /// That a page isn't what a page of a clustered tree has to be.
 pub fn broken(page: PageNo) -> StoreFault
-    ensures { result ≡ Damaged page.0 7 }
+    ensures { result ≡ Damaged page.0 tree_rule }
 {
     StoreFault::Damaged {
         page: page.0,
