@@ -1,10 +1,11 @@
 //! A page above the leaves with one entry more, or in two; and a root that is raised.
-ghost use Rattle.std.specs.Prelude.{◌≡◌, ◌+◌, ◌*◌, ◌<◌, ◌≤◌, [], ◌∷◌, ℕ, suc, List, All, length};
+ghost use Rattle.std.specs.Prelude.{◌≡◌, ◌+◌, ◌-◌, ◌*◌, ◌<◌, ◌≤◌, [], ◌∷◌, ℕ, suc, List, All, length};
 ghost use Rattle.std.specs.List.{flat_map};
 ghost use Rattle.isp_disk.specs.Moments.{image_of, slice};
-ghost use Rattle.isp_format.specs.Inner.{IsInnerPage, IsName, Name, name_bytes};
-ghost use Rattle.isp_format.specs.Kinds.{HasHead, clustered_owner};
+ghost use Rattle.isp_format.specs.Inner.{IsInnerPage, IsName, Name, most_names, name_bytes, name_size};
+ghost use Rattle.isp_format.specs.Kinds.{HasHead, clustered_owner, content_place};
 ghost use Rattle.isp_format.specs.Leaf.{Stored};
+ghost use Rattle.isp_format.specs.Ranges.{page_bytes};
 ghost use Rattle.isp_cells.specs.LeafPages.{IsLeaf};
 ghost use Rattle.isp_levels.specs.Levels.{least_key};
 ghost use Rattle.isp_growth.specs.Entries.{up_to, with_name};
@@ -24,7 +25,7 @@ const LEFT_NAMES: usize = 169;
 
 // How many of the entries begin at the key or before it, from the first on.
 fn count_up_to(p: &Page, count: usize, key: i64) -> usize
-    requires most { count ≤ 336 }
+    requires most { count ≤ most_names }
     ensures few { result ≤ count }
     ensures up_to { (table own level : ℕ) (names : List Name)
         → IsInnerPage p.now.bytes table own level names → count ≡ length names
@@ -42,7 +43,7 @@ fn count_up_to(p: &Page, count: usize, key: i64) -> usize
 
 // An entry as it stands on a page, at the front of a page.
 fn spelled_entry(key: i64, page: u32) -> Page
-    ensures { slice (image_of result.bytes) 0 12 ≡ name_bytes (key, page) }
+    ensures { slice (image_of result.bytes) 0 name_size ≡ name_bytes (key, page) }
 {
     let mut p = Page::zeros();
     put_u64(&mut p, 0, key.cast_unsigned());
@@ -52,10 +53,10 @@ fn spelled_entry(key: i64, page: u32) -> Page
 
 // The content of a page once an entry is put into it.
 fn with_entry(old: &Page, count: usize, key: i64, page: PageNo) -> Content
-    requires most { count ≤ 336 }
+    requires most { count ≤ most_names }
     ensures { (table own level : ℕ) (names : List Name)
         → IsInnerPage old.now.bytes table own level names → count ≡ length names
-        → slice (image_of result.bytes) 0 (12 * length (with_name (key, page.0) names))
+        → slice (image_of result.bytes) 0 (name_size * length (with_name (key, page.0) names))
         ≡ flat_map name_bytes (with_name (key, page.0) names) }
 {
     let before = count_up_to(old, count, key);
@@ -72,10 +73,10 @@ fn with_entry(old: &Page, count: usize, key: i64, page: PageNo) -> Content
 
 // A page above the leaves of such entries.
 fn inner_page(owner: u32, level: u8, own: PageNo, count: u16, content: &[u8]) -> Page
-    requires { length content.now ≤ 4032 }
+    requires { length content.now ≤ page_bytes - content_place }
     ensures { (table : ℕ) (names : List Name) → owner ≡ clustered_owner table
         → content.now ≡ flat_map name_bytes names → All IsName names → count ≡ length names
-        → length names ≤ 336 → IsInnerPage result.bytes table own.0 level names }
+        → length names ≤ most_names → IsInnerPage result.bytes table own.0 level names }
 {
     let h = Head {
         kind: INNER_KIND,
@@ -93,7 +94,7 @@ fn inner_page(owner: u32, level: u8, own: PageNo, count: u16, content: &[u8]) ->
 
 /// The page with an entry more, where it has room for it.
 pub fn entry_put(old: &Page, count: u16, key: i64, page: PageNo) -> Page
-    requires few { count < 336 }
+    requires few { count < most_names }
     ensures { (table own level : ℕ) (names : List Name)
         → IsInnerPage old.now.bytes table own level names → count ≡ length names
         → IsInnerPage result.bytes table own level (with_name (key, page.0) names) }
@@ -107,7 +108,7 @@ pub fn entry_put(old: &Page, count: u16, key: i64, page: PageNo) -> Page
 /// The halves of a full page with an entry more.
 pub fn entry_halves(old: &Page, key: i64, page: PageNo, right: PageNo) -> Halves
     ensures { (table own level : ℕ) (names : List Name)
-        → IsInnerPage old.now.bytes table own level names → length names ≡ 336
+        → IsInnerPage old.now.bytes table own level names → length names ≡ most_names
         → AreNodeHalves result table own right.0 level (with_name (key, page.0) names) }
 {
     let h = head(old);
