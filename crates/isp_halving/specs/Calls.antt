@@ -1,5 +1,6 @@
 -- What the steps of a division ask of a store of pages; at a bound `P: Pages`.
 use Rattle.std.specs.Prelude.{ℕ, ◌<◌, ◌≡◌, ◌⊎◌, false, ⊤, All}
+use Rattle.isp_format.specs.Rules.{tree_rule}
 use Rattle.isp_page.specs.Touched.{is_page}
 use Rattle.isp_page.specs.declared.fault.StoreFault.{StoreFault}
 use Rattle.isp_page.specs.declared.fault.StoreFault.TheVariants.{Damaged, Disk, Print}
@@ -21,4 +22,4 @@ IsOutside page s = IsApart page s × (page < s.fresh)
 abbrev pub NamesTreeOrSpace : ℕ → StoreFault → Type 0
 NamesTreeOrSpace pages Disk = ⊤
 NamesTreeOrSpace pages Print = ⊤
-NamesTreeOrSpace pages (Damaged page rule) = ((page < pages) × (rule ≡ 7)) ⊎ NamesSpace (Damaged page rule)
+NamesTreeOrSpace pages (Damaged page rule) = ((page < pages) × (rule ≡ tree_rule)) ⊎ NamesSpace (Damaged page rule)

@@ -5,8 +5,8 @@
 ghost use Rattle.std.specs.Prelude.{◌≡◌, ◌+◌, ◌<◌, ◌≤◌, [], ◌∷◌, ℕ, List, true, false, is_none, length, nat_lt, IfErr, IfOk, IfSome, OnOk};
 ghost use Rattle.isp_cells.specs.LeafPages.{IsLeaf};
 ghost use Rattle.isp_cells.specs.Rows.{with_put};
-ghost use Rattle.isp_format.specs.Inner.{IsInnerPage, Name};
-ghost use Rattle.isp_format.specs.Leaf.{Stored};
+ghost use Rattle.isp_format.specs.Inner.{IsInnerPage, Name, most_names};
+ghost use Rattle.isp_format.specs.Leaf.{Stored, most_slot};
 ghost use Rattle.isp_format.specs.Ranges.{page_of};
 ghost use Rattle.isp_growth.specs.Entries.{with_name};
 ghost use Rattle.isp_halving.specs.Calls.{HasSpace, IsOutside, NamesTreeOrSpace};
@@ -49,7 +49,7 @@ pub fn divide_leaf<P: Pages>(
 ) -> Result<Entry, StoreFault>
     requires can { MayChange P.Pages 3 pages.old }
     requires page { page.0 < (P.shape pages.old).pages }
-    requires row { length row.now ≤ 1000 }
+    requires row { length row.now ≤ most_slot }
     ensures kept { Continues P.Pages pages.old pages.new result }
     ensures changes { IfOk result (λ entry. ChangesOf P.Pages (0 ∷ entry.page.0 ∷ page.0 ∷ []) pages.old pages.new) }
     ensures inside { IfOk result (λ entry. entry.page.0 < (P.shape pages.old).pages) }
@@ -91,12 +91,12 @@ pub fn divide_inner<P: Pages>(
     ensures names { IfErr result (NamesTreeOrSpace (P.shape pages.old).pages) }
     ensures halves { P.tells → (table : ℕ) (names : List Name) (s : Space)
         → IsInnerPage (page_of (P.contents pages.old) page.0) table page.0 level names
-        → length names ≡ 336 → HasSpace P.Pages pages.old s → IsOutside page.0 s
+        → length names ≡ most_names → HasSpace P.Pages pages.old s → IsOutside page.0 s
         → 0 < free_pages (P.shape pages.old).pages s
         → IfOk result (λ entry. HalvesInner P.Pages pages.new table page.0 level (with_name (new.key, new.page.0) names) s entry) }
     ensures sound { P.tells → (table : ℕ) (names : List Name) (s : Space)
         → IsInnerPage (page_of (P.contents pages.old) page.0) table page.0 level names
-        → length names ≡ 336 → HasSpace P.Pages pages.old s → IsOutside page.0 s
+        → length names ≡ most_names → HasSpace P.Pages pages.old s → IsOutside page.0 s
         → 0 < free_pages (P.shape pages.old).pages s → IfErr result IsNoDamage }
 {
     let mut old = Page::zeros();
@@ -117,7 +117,7 @@ pub fn has_entry_room<P: Pages>(pages: &mut P, page: PageNo, level: u8) -> Resul
     ensures reads { ReadsPage P.Pages page.0 pages.old pages.new result }
     ensures room { P.tells → (table : ℕ) (names : List Name)
         → IsInnerPage (page_of (P.contents pages.old) page.0) table page.0 level names
-        → IfOk result (λ there. there ≡ nat_lt (length names) 336) }
+        → IfOk result (λ there. there ≡ nat_lt (length names) most_names) }
     ensures sound { P.tells → (table : ℕ) (names : List Name)
         → IsInnerPage (page_of (P.contents pages.old) page.0) table page.0 level names → IfErr result IsNoDamage }
 {
@@ -144,10 +144,10 @@ pub fn put_entry<P: Pages>(
     requires page { page.0 < (P.shape pages.old).pages }
     ensures changes { ChangesPages P.Pages (page.0 ∷ []) (NamesAny (P.shape pages.old).pages) pages.old pages.new result }
     ensures put { P.tells → (table : ℕ) (names : List Name)
-        → IsInnerPage (page_of (P.contents pages.old) page.0) table page.0 level names → length names < 336
+        → IsInnerPage (page_of (P.contents pages.old) page.0) table page.0 level names → length names < most_names
         → OnOk result (IsInnerPage (page_of (P.contents pages.new) page.0) table page.0 level (with_name (new.key, new.page.0) names)) }
     ensures sound { P.tells → (table : ℕ) (names : List Name)
-        → IsInnerPage (page_of (P.contents pages.old) page.0) table page.0 level names → length names < 336
+        → IsInnerPage (page_of (P.contents pages.old) page.0) table page.0 level names → length names < most_names
         → IfErr result IsNoDamage }
 {
     let mut old = Page::zeros();
@@ -164,10 +164,10 @@ pub fn put_entry<P: Pages>(
 // The page with an entry more, where it stands so high above the leaves and has room for it.
 fn with_entry(old: &Page, page: PageNo, level: u8, new: Entry) -> Option<Page>
     ensures put { (table : ℕ) (names : List Name) → IsInnerPage old.now.bytes table page.0 level names
-        → length names < 336
+        → length names < most_names
         → IfSome result (λ p. IsInnerPage p.bytes table page.0 level (with_name (new.key, new.page.0) names)) }
     ensures some { (table : ℕ) (names : List Name) → IsInnerPage old.now.bytes table page.0 level names
-        → length names < 336 → is_none result ≡ false }
+        → length names < most_names → is_none result ≡ false }
 {
     match count_of(old, page.0, level) {
         Some(count) => {

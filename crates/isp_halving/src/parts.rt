@@ -4,8 +4,8 @@ ghost use Rattle.isp_cells.specs.LeafPages.{IsLeaf};
 ghost use Rattle.isp_cells.specs.Rows.{with_put};
 ghost use Rattle.isp_division.specs.Entries.{AreNodeHalves};
 ghost use Rattle.isp_division.specs.Halves.{AreHalves};
-ghost use Rattle.isp_format.specs.Inner.{IsInnerPage, Name};
-ghost use Rattle.isp_format.specs.Leaf.{Stored};
+ghost use Rattle.isp_format.specs.Inner.{IsInnerPage, Name, most_names};
+ghost use Rattle.isp_format.specs.Leaf.{Stored, most_slot};
 ghost use Rattle.isp_growth.specs.Entries.{with_name};
 ghost use Rattle.isp_levels.specs.Dividing.{is_divided};
 
@@ -23,7 +23,7 @@ pub(crate) fn leaf_parts(
     row: &[u8],
     right: PageNo,
 ) -> Option<Halves>
-    requires row { length row.now ≤ 1000 }
+    requires row { length row.now ≤ most_slot }
     ensures parts { (table next : ℕ) (rows : List Stored) → IsLeaf old.now.bytes table page.0 next rows
         → is_divided (with_put key row.now rows) ≡ true
         → IfSome result (λ h. AreHalves h table page.0 right.0 next (with_put key row.now rows)) }
@@ -45,10 +45,10 @@ pub(crate) fn node_parts(
     right: PageNo,
 ) -> Option<Halves>
     ensures parts { (table : ℕ) (names : List Name) → IsInnerPage old.now.bytes table page.0 level names
-        → length names ≡ 336
+        → length names ≡ most_names
         → IfSome result (λ h. AreNodeHalves h table page.0 right.0 level (with_name (new.key, new.page.0) names)) }
     ensures some { (table : ℕ) (names : List Name) → IsInnerPage old.now.bytes table page.0 level names
-        → length names ≡ 336 → is_none result ≡ false }
+        → length names ≡ most_names → is_none result ≡ false }
 {
     match count_of(old, page.0, level) {
         Some(count) => {
