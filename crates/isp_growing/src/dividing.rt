@@ -1,5 +1,6 @@
 //! A row is put into a leaf that has no room for it.
 ghost use Rattle.std.specs.Prelude.{◌≡◌, ◌<◌, ◌≤◌, [], ℕ, List, length, IfErr, OnOk};
+ghost use Rattle.isp_format.specs.Leaf.{most_slot};
 ghost use Rattle.isp_halving.specs.Calls.{NamesTreeOrSpace};
 ghost use Rattle.isp_levels.specs.Levels.{InnerNode, TreeLeaf};
 ghost use Rattle.isp_page.specs.Calls.{Continues};
@@ -24,7 +25,7 @@ fn divide_root<P: Pages>(
 ) -> Result<(), StoreFault>
     requires can { MayChange P.Pages most_grown pages.old }
     requires page { root.0 < (P.shape pages.old).pages }
-    requires row { length row.now ≤ 1000 }
+    requires row { length row.now ≤ most_slot }
     ensures kept { Continues P.Pages pages.old pages.new result }
     ensures changes { OnOk result (ChangesBy P.Pages most_grown pages.old pages.new) }
     ensures names { IfErr result (NamesTreeOrSpace (P.shape pages.old).pages) }
@@ -56,7 +57,7 @@ pub fn put_divided<P: Pages>(
 ) -> Result<(), StoreFault>
     requires can { MayChange P.Pages most_grown pages.old }
     requires page { root.0 < (P.shape pages.old).pages }
-    requires row { length row.now ≤ 1000 }
+    requires row { length row.now ≤ most_slot }
     ensures changes { ChangesTree P.Pages root.0 (NamesTreeOrSpace (P.shape pages.old).pages) most_grown
         pages.old pages.new result }
     ensures put { P.tells → (table : ℕ) (levels : List (List InnerNode)) (leaves : List TreeLeaf) (s : Space) (leaf : TreeLeaf)

@@ -3,7 +3,7 @@ ghost use Rattle.std.specs.Prelude.{◌≡◌, ◌<◌, ◌≤◌, ℕ, List, tr
 ghost use Rattle.isp_format.specs.Header.{header_of};
 ghost use Rattle.isp_format.specs.Ranges.{page_of};
 ghost use Rattle.isp_levels.specs.Inners.{SaysRoot};
-ghost use Rattle.isp_levels.specs.Levels.{InnerNode, IsTreeOf, TreeLeaf};
+ghost use Rattle.isp_levels.specs.Levels.{InnerNode, IsTreeOf, TreeLeaf, most_levels};
 ghost use Rattle.isp_levels.specs.Walks.{ReadsPage};
 ghost use Rattle.isp_page.specs.Steps.{IsNoDamage};
 ghost use Rattle.isp_growing.specs.Paths.{FindsPath, IsPathTo};
@@ -30,7 +30,7 @@ fn top_of<P: Pages>(pages: &mut P, root: PageNo) -> Result<u8, StoreFault>
     ensures reads { ReadsPage P.Pages root.0 pages.old pages.new result }
     ensures height { P.tells → IfOk result (λ height.
         height ≡ (header_of (page_of (P.contents pages.old) root.0)).level) }
-    ensures low { IfOk result (λ height. height ≤ 15) }
+    ensures low { IfOk result (λ height. height ≤ most_levels) }
     ensures sound { P.tells → (height : ℕ)
         → SaysRoot root.0 height (header_of (page_of (P.contents pages.old) root.0))
         → IfErr result IsNoDamage }

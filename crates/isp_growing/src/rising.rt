@@ -1,8 +1,8 @@
 //! A division on its way up: the entry of the right part is put into the page above, which is divided for it where it has no room.
 ghost use Rattle.std.specs.Prelude.{◌≡◌, ◌+◌, ◌<◌, ◌≤◌, [], ◌∷◌, ℕ, ℤ, suc, List, length, slice_index, IfErr, OnOk};
-ghost use Rattle.isp_format.specs.Inner.{Name};
+ghost use Rattle.isp_format.specs.Inner.{Name, most_names};
 ghost use Rattle.isp_halving.specs.Calls.{NamesTreeOrSpace};
-ghost use Rattle.isp_levels.specs.Levels.{InnerNode, TreeLeaf};
+ghost use Rattle.isp_levels.specs.Levels.{InnerNode, TreeLeaf, most_levels};
 ghost use Rattle.isp_page.specs.Calls.{Continues};
 ghost use Rattle.isp_page.specs.Steps.{IsNoDamage};
 ghost use Rattle.isp_space.specs.Spaces.{Space, free_pages};
@@ -24,11 +24,11 @@ fn raise_up<P: Pages>(pages: &mut P, root: PageNo, level: u8, new: Entry) -> Res
     ensures names { IfErr result (NamesTreeOrSpace (P.shape pages.old).pages) }
     ensures put { P.tells → (table : ℕ) (key : ℤ) (node : InnerNode) (below : List (List InnerNode)) (leaves : List TreeLeaf) (old : Name) (s : Space)
         → MayRise P.Pages pages.old table root.0 key ((node ∷ []) ∷ []) below leaves old new s
-        → level ≡ suc (length below) → length node.names ≡ 336 → 1 < free_pages (P.shape pages.old).pages s
+        → level ≡ suc (length below) → length node.names ≡ most_names → 1 < free_pages (P.shape pages.old).pages s
         → OnOk result (HasRisen P.Pages pages.old pages.new table root.0 ((node ∷ []) ∷ []) below leaves s) }
     ensures sound { P.tells → (table : ℕ) (key : ℤ) (node : InnerNode) (below : List (List InnerNode)) (leaves : List TreeLeaf) (old : Name) (s : Space)
         → MayRise P.Pages pages.old table root.0 key ((node ∷ []) ∷ []) below leaves old new s
-        → level ≡ suc (length below) → length node.names ≡ 336 → 1 < free_pages (P.shape pages.old).pages s
+        → level ≡ suc (length below) → length node.names ≡ most_names → 1 < free_pages (P.shape pages.old).pages s
         → IfErr result IsNoDamage }
 {
     let _most = pages.pages();
@@ -52,7 +52,7 @@ pub(crate) fn put_up<P: Pages>(
     requires can { MayGoUp P.Pages level pages.old }
     requires inside { (k : ℕ) → slice_index path.now.pages k < (P.shape pages.old).pages }
     requires to { level ≤ path.now.height }
-    requires low { path.now.height ≤ 15 }
+    requires low { path.now.height ≤ most_levels }
     ensures kept { Continues P.Pages pages.old pages.new result }
     ensures changes { OnOk result (GoesUp P.Pages level pages.old pages.new) }
     ensures names { IfErr result (NamesTreeOrSpace (P.shape pages.old).pages) }
