@@ -5,6 +5,7 @@ use Rattle.isp_base.specs.declared.page_no.PageNo.{PageNo}
 use Rattle.isp_format.specs.Header.{header_of}
 use Rattle.isp_format.specs.Leaf.{Stored}
 use Rattle.isp_format.specs.Ranges.{Contents, page_of}
+use Rattle.isp_format.specs.Rules.{tree_rule}
 use Rattle.isp_page.specs.Calls.{Continues, ContinuesOrLacks}
 use Rattle.isp_page.specs.Touched.{KeepsPages, is_page}
 use Rattle.isp_page.specs.declared.fault.Fault.{Fault}
@@ -50,7 +51,7 @@ Creates g old new table s page = IsCreated (g.shape new).pages (g.contents old) 
 abbrev pub NamesAnyOrLacks : ℕ → Fault → Type 0
 NamesAnyOrLacks pages (Store Disk) = ⊤
 NamesAnyOrLacks pages (Store Print) = ⊤
-NamesAnyOrLacks pages (Store (Damaged page rule)) = (page < pages) × (rule ≡ 7)
+NamesAnyOrLacks pages (Store (Damaged page rule)) = (page < pages) × (rule ≡ tree_rule)
 NamesAnyOrLacks pages Memory = ⊤
 
 -- A call that reads a tree on that page, which says that it is one where the call answers; and names pages of the file where

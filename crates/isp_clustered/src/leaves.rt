@@ -2,8 +2,9 @@
 ghost use Rattle.std.specs.Prelude.{◌≡◌, ◌<◌, ◌≤◌, ◌++◌, ◌∷◌, [], ℕ, List, Some, IfErr, IfOk, IfSome, OnOk, true};
 ghost use Rattle.isp_disk.specs.Moments.{image_of};
 ghost use Rattle.isp_format.specs.Header.{header_of};
+ghost use Rattle.isp_format.specs.Kinds.{content_place};
 ghost use Rattle.isp_format.specs.Leaf.{IsLeafPage, Stored};
-ghost use Rattle.isp_format.specs.Ranges.{page_of};
+ghost use Rattle.isp_format.specs.Ranges.{page_bytes, page_of};
 ghost use Rattle.isp_page.specs.Steps.{IsNoDamage, IsNoDamageOrLacks};
 ghost use Rattle.isp_levels.specs.Walks.{ReadsPage};
 ghost use Rattle.isp_clustered.specs.Calls.{HasTree, ReadsLeaf};
@@ -31,7 +32,7 @@ fn copy_row(
     cell: Cell,
 ) -> Result<KeptRow, AllocError>
     requires within { IsWithin at used cell }
-    requires inside { used ≤ 4096 }
+    requires inside { used ≤ page_bytes }
     ensures { (s : Stored) (rows : List Stored) → Stand (image_of p.now.bytes) at used (s ∷ rows)
         → cell ≡ cell_of s → IfOk result (λ row. row ≡ kept_row_of s) }
 {
@@ -42,9 +43,9 @@ fn copy_row(
 
 // All rows of a leaf, if rows stand there.
 fn rows_in(alloc: Global, p: &Page, used: usize) -> Result<Option<KeptRows>, AllocError>
-    requires from { 64 ≤ used }
-    requires inside { used ≤ 4096 }
-    ensures { (rows : List Stored) → Stand (image_of p.now.bytes) 64 used rows
+    requires from { content_place ≤ used }
+    requires inside { used ≤ page_bytes }
+    ensures { (rows : List Stored) → Stand (image_of p.now.bytes) content_place used rows
         → IfOk result (λ got. got ≡ Some (kept_rows_of rows)) }
 {
     let mut rows = Items::new(alloc);

@@ -3,8 +3,9 @@ ghost use Rattle.std.specs.Prelude.{◌≡◌, ◌+◌, ◌<◌, ◌≤◌, ◌�
 ghost use Rattle.std.specs.List.{flat_map};
 ghost use Rattle.std.specs.Option.{option_map};
 ghost use Rattle.isp_disk.specs.Moments.{image_of};
+ghost use Rattle.isp_format.specs.Kinds.{content_place};
 ghost use Rattle.isp_format.specs.Leaf.{IsLeafPage, Stored, stored_bytes};
-ghost use Rattle.isp_format.specs.Ranges.{page_of};
+ghost use Rattle.isp_format.specs.Ranges.{page_bytes, page_of};
 ghost use Rattle.isp_page.specs.Steps.{IsNoDamage, IsNoDamageOrLacks};
 ghost use Rattle.isp_cells.specs.Cells.{IsPlaceWithin, IsWithin, Stand, cell_of, place_in};
 ghost use Rattle.isp_cells.specs.Rows.{find};
@@ -32,10 +33,10 @@ pub(crate) fn read_leaf<P: Pages>(
     requires page { page.0 < (P.shape pages.old).pages }
     ensures reads { ReadsPage P.Pages page.0 pages.old pages.new result }
     ensures page { P.tells → OnOk result (into.new.bytes ≡ page_of (P.contents pages.old) page.0) }
-    ensures within { IfOk result (λ used. (64 ≤ used) × (used ≤ 4096)) }
+    ensures within { IfOk result (λ used. (content_place ≤ used) × (used ≤ page_bytes)) }
     ensures stand { (table next : ℕ) (rows : List Stored)
         → IsLeafPage into.new.bytes table page.0 next rows
-        → IfOk result (λ used. used ≡ 64 + length (flat_map stored_bytes rows)) }
+        → IfOk result (λ used. used ≡ content_place + length (flat_map stored_bytes rows)) }
     ensures sound { P.tells → (table next : ℕ) (rows : List Stored)
         → IsLeafPage (page_of (P.contents pages.old) page.0) table page.0 next rows
         → IfErr result IsNoDamage }
@@ -66,7 +67,7 @@ pub(crate) fn find_leaf<P: Pages>(
     ensures reads { ReadsTree P.Pages root.0 pages.old pages.new result }
     ensures inside { IfOk result (λ at. at.page.0 < (P.shape pages.old).pages) }
     ensures bytes { P.tells → IfOk result (λ at. into.new.bytes ≡ page_of (P.contents pages.old) at.page.0) }
-    ensures within { IfOk result (λ at. (64 ≤ at.used) × (at.used ≤ 4096)) }
+    ensures within { IfOk result (λ at. (content_place ≤ at.used) × (at.used ≤ page_bytes)) }
     ensures leaf { P.tells → (table : ℕ) (tree : Tree)
         → HasTree P.Pages pages.old table root.0 tree
         → IfOk result (λ at. IsFoundLeaf into.new.bytes at.page.0 at.used table key tree) }
@@ -87,7 +88,7 @@ pub(crate) fn copy_cell(
     cell: Cell,
 ) -> Result<Kept, AllocError>
     requires within { IsWithin at used cell }
-    requires inside { used ≤ 4096 }
+    requires inside { used ≤ page_bytes }
     ensures { (s : Stored) (rows : List Stored) → Stand (image_of p.now.bytes) at used (s ∷ rows)
         → cell ≡ cell_of s → IfOk result (λ kept. kept ≡ kept_of s) }
 {
@@ -102,9 +103,9 @@ pub(crate) fn copy_cell(
 // The row of a place, copied, if one stands there.
 fn kept_at(alloc: Global, p: &Page, used: usize, place: Place) -> Result<Option<Kept>, AllocError>
     requires within { IsPlaceWithin used place }
-    requires inside { used ≤ 4096 }
-    ensures { (key : ℤ) (rows : List Stored) → Stand (image_of p.now.bytes) 64 used rows
-        → place ≡ place_in key 64 rows → IfOk result
+    requires inside { used ≤ page_bytes }
+    ensures { (key : ℤ) (rows : List Stored) → Stand (image_of p.now.bytes) content_place used rows
+        → place ≡ place_in key content_place rows → IfOk result
         (λ got. got ≡ option_map kept_of (find key rows)) }
 {
     match place.here {

@@ -1,10 +1,13 @@
 //! The calls that change a tree.
-ghost use Rattle.std.specs.Prelude.{◌≡◌, ◌+◌, ◌^◌, ◌<◌, ◌≤◌, [], ◌∷◌, ℕ, Some, true, false, is_none, length, IfErr, IfOk, IfSome, OnOk};
+ghost use Rattle.std.specs.Prelude.{◌≡◌, ◌+◌, ◌<◌, ◌≤◌, [], ◌∷◌, ℕ, Some, true, false, is_none, length, IfErr, IfOk, IfSome, OnOk};
+ghost use Rattle.isp_format.specs.Definition.{most_tables};
+ghost use Rattle.isp_format.specs.Empty.{first_fresh};
 ghost use Rattle.isp_format.specs.Header.{header_of};
 ghost use Rattle.isp_format.specs.Ranges.{page_of};
 ghost use Rattle.isp_format.specs.HeadValues.{header_in};
+ghost use Rattle.isp_format.specs.Leaf.{most_slot};
 ghost use Rattle.isp_page.specs.Steps.{IsNoDamage};
-ghost use Rattle.isp_space.specs.Spaces.{NamesSpace, Space, free_pages};
+ghost use Rattle.isp_space.specs.Spaces.{NamesSpace, Space, counter_limit, free_pages};
 ghost use Rattle.isp_levels.specs.Walks.{NamesAny};
 ghost use Rattle.isp_clustered.specs.Calls.{ChangesTree, Creates, CreatesTree, Edits, HasSpace, HasTree, MayPut, NamesTreeOrSpace, Puts};
 ghost use Rattle.isp_space.specs.Changes.{ChangesPages, MayChange};
@@ -17,7 +20,9 @@ ghost use Rattle.isp_cells.specs.LeafPages.{leaf_header};
 
 use crate::reading::find_leaf;
 use isp_cells::{drop_in, mark_in, put_in, rewrite_in};
-use isp_format::{CONTENT_PLACE, Head, LEAF_KIND, Page, PageNo, clustered_owner, set_head};
+use isp_format::{
+    CONTENT_PLACE, Head, LEAF_KIND, Page, PageNo, STORED_HEAD, clustered_owner, set_head,
+};
 use isp_growing::put_divided;
 use isp_levels::broken;
 use isp_page::{Pages, StoreFault, replace};
@@ -59,13 +64,14 @@ fn count_and_replace<P: Pages>(
     requires can { MayChange P.Pages 2 pages.old }
     requires page { page.0 < (P.shape pages.old).pages }
     ensures changes { ChangesPages P.Pages (0 ∷ page.0 ∷ []) NamesSpace pages.old pages.new result }
-    ensures put { P.tells → 16 ≤ page.0 → old.now.bytes ≡ page_of (P.contents pages.old) page.0
+    ensures put { P.tells → first_fresh ≤ page.0
+        → old.now.bytes ≡ page_of (P.contents pages.old) page.0
         → OnOk result (page_of (P.contents pages.new) page.0 ≡ new.now.bytes) }
     ensures space { P.tells → (s : Space) → HasSpace P.Pages pages.old s
         → IsApart page.0 s → OnOk result (HasSpace P.Pages pages.new
         (record s { bytes = s.bytes + bytes })) }
     ensures sound { P.tells → (s : Space) → HasSpace P.Pages pages.old s
-        → s.bytes + bytes < 2 ^ 63 → IfErr result IsNoDamage }
+        → s.bytes + bytes < counter_limit → IfErr result IsNoDamage }
 {
     add_bytes(pages, bytes)?;
     replace(pages, page, old, new)?;
@@ -81,7 +87,7 @@ fn grow_and_count<P: Pages>(
 ) -> Result<(), StoreFault>
     requires can { MayChange P.Pages most_put pages.old }
     requires page { root.0 < (P.shape pages.old).pages }
-    requires row { length row.now ≤ 1000 }
+    requires row { length row.now ≤ most_slot }
     ensures changes { ChangesTree P.Pages root.0 (NamesTreeOrSpace (P.shape pages.old).pages) most_put
         pages.old pages.new result }
     ensures put { P.tells → (table : ℕ) (tree : Tree) (s : Space) (leaf : TreeLeaf)
@@ -94,7 +100,7 @@ fn grow_and_count<P: Pages>(
         → IfErr result IsNoDamage }
 {
     put_divided(pages, root, key, row)?;
-    add_bytes(pages, (13 + row.len()) as u64)?;
+    add_bytes(pages, (STORED_HEAD + row.len()) as u64)?;
     Ok(())
 }
 
@@ -108,7 +114,7 @@ fn grow_and_count<P: Pages>(
 pub fn put<P: Pages>(pages: &mut P, root: PageNo, key: i64, row: &[u8]) -> Result<(), StoreFault>
     requires can { MayChange P.Pages most_put pages.old }
     requires page { root.0 < (P.shape pages.old).pages }
-    requires row { length row.now ≤ 1000 }
+    requires row { length row.now ≤ most_slot }
     ensures changes { ChangesTree P.Pages root.0 (NamesTreeOrSpace (P.shape pages.old).pages) most_put
         pages.old pages.new result }
     ensures put { P.tells → (table : ℕ) (tree : Tree) (s : Space)
@@ -121,7 +127,7 @@ pub fn put<P: Pages>(pages: &mut P, root: PageNo, key: i64, row: &[u8]) -> Resul
     let leaf = find_leaf(pages, root, key, &mut page)?;
     match put_in(&page, leaf.used, key, row) {
         Some(new) => {
-            count_and_replace(pages, leaf.page, &page, &new, (13 + row.len()) as u64)?;
+            count_and_replace(pages, leaf.page, &page, &new, (STORED_HEAD + row.len()) as u64)?;
             Ok(())
         }
         None => {
@@ -219,7 +225,7 @@ pub fn drop_marked<P: Pages>(pages: &mut P, root: PageNo, key: i64) -> Result<()
 
 // The header of a leaf without rows.
 fn leaf_head(p: PageNo, table: u32) -> Head
-    requires { table ≤ 64 }
+    requires { table ≤ most_tables }
     ensures { header_in result ≡ leaf_header table p.0 }
 {
     Head {
@@ -239,7 +245,7 @@ fn leaf_head(p: PageNo, table: u32) -> Head
 fn make_leaf<P: Pages>(pages: &mut P, p: PageNo, table: u32) -> Result<(), StoreFault>
     requires can { MayChange P.Pages 1 pages.old }
     requires page { p.0 < (P.shape pages.old).pages }
-    requires table { table ≤ 64 }
+    requires table { table ≤ most_tables }
     ensures changes { ChangesPages P.Pages (p.0 ∷ []) IsNoDamage pages.old pages.new result }
     ensures header { P.tells → OnOk result (header_of (page_of (P.contents pages.new) p.0) ≡
         leaf_header table p.0) }
@@ -259,7 +265,7 @@ fn make_leaf<P: Pages>(pages: &mut P, p: PageNo, table: u32) -> Result<(), Store
 /// As of `take_page` of isp_space.
 pub fn create<P: Pages>(pages: &mut P, table: u32) -> Result<PageNo, StoreFault>
     requires can { MayChange P.Pages 3 pages.old }
-    requires table { table ≤ 64 }
+    requires table { table ≤ most_tables }
     ensures creates { CreatesTree P.Pages pages.old pages.new result }
     ensures made { P.tells → (s : Space) → HasSpace P.Pages pages.old s
         → 0 < free_pages (P.shape pages.old).pages s
