@@ -1,6 +1,7 @@
 -- What the directory says of a slot, and what calls that read chains name.
 use Rattle.std.specs.Prelude.{◌≡◌, ◌⊎◌, ℕ, ◌<◌, ◌≤◌, Bool, true, false, List, [], ◌∷◌, Option, Some, None, ⊤}
 use Rattle.isp_format.specs.Empty.{first_fresh}
+use Rattle.isp_format.specs.Rules.{undo_rule}
 use Rattle.isp_format.specs.Undo.{Slot as Ends}
 use Rattle.isp_page.specs.declared.fault.StoreFault.{StoreFault}
 use Rattle.isp_page.specs.declared.fault.StoreFault.TheVariants.{Damaged, Disk, Print}
@@ -26,19 +27,19 @@ pub record IsInside (pages : ℕ) (slot : Slot) : Type 0 where
 
 -- that page breaks the rule of undo slots
 abbrev pub broken_at : ℕ → StoreFault
-broken_at page = Damaged page 10
+broken_at page = Damaged page undo_rule
 
 -- a damaged page that is named breaks the rule of undo slots
 abbrev pub NamesUndo : StoreFault → Type 0
 NamesUndo Disk = ⊤
 NamesUndo Print = ⊤
-NamesUndo (Damaged page rule) = rule ≡ 10
+NamesUndo (Damaged page rule) = rule ≡ undo_rule
 
 -- the same, or a walk led over more pages than the file has
 abbrev pub NamesWalk : StoreFault → Type 0
 NamesWalk Disk = ⊤
 NamesWalk Print = ⊤
-NamesWalk (Damaged page rule) = (rule ≡ 10) ⊎ (rule ≡ 13)
+NamesWalk (Damaged page rule) = (rule ≡ undo_rule) ⊎ (rule ≡ 13)
 
 abbrev pub HasChainIn : {S : Type 0} → Ghosts S → S → List Ends → ℕ → Chain → Type 0
 HasChainIn g now slots slot chain = HasChain (g.shape now).pages (g.contents now) slots slot chain

@@ -12,12 +12,12 @@ ghost use Rattle.isp_undo_walks.specs.Slots.{HasChainIn, IsInside, NamesUndo, br
 ghost use Rattle.isp_undo_walks.specs.Chains.{Chain};
 ghost use Rattle.isp_undo_pages.specs.Directory.{ends_in};
 
-use isp_format::{FIRST_FRESH, Page, PageNo};
+use isp_format::{FIRST_FRESH, Page, PageNo, UNDO_DIRECTORY_PAGE, UNDO_RULE};
 use isp_page::{Pages, StoreFault};
 use isp_undo_pages::{Slot, slot_in, used_of};
 
 /// The page of the directory.
-pub const DIRECTORY: PageNo = PageNo(1);
+pub const DIRECTORY: PageNo = PageNo(UNDO_DIRECTORY_PAGE);
 
 /// What is said of an undo page that isn't what it should be.
 pub fn broken(page: PageNo) -> StoreFault
@@ -25,7 +25,7 @@ pub fn broken(page: PageNo) -> StoreFault
 {
     StoreFault::Damaged {
         page: page.0,
-        rule: 10,
+        rule: UNDO_RULE,
     }
 }
 
