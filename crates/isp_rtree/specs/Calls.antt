@@ -3,6 +3,7 @@
 use Rattle.std.specs.Prelude.{◌≡◌, ℕ, ◌⊎◌, ◌<◌, Result, IfErr, OnOk, ⊤}
 use Rattle.isp_forest.specs.Tree.{Tree}
 use Rattle.isp_format.specs.Ranges.{page_of}
+use Rattle.isp_format.specs.Rules.{rtree_rule}
 use Rattle.isp_page.specs.Calls.{ContinuesOrLacks}
 use Rattle.isp_page.specs.declared.fault.Fault.{Fault}
 use Rattle.isp_page.specs.declared.fault.Fault.TheVariants.{Memory, Store}
@@ -25,13 +26,13 @@ HasRoot g now owner q = IsRootOf (g.shape now).pages owner q (page_of (g.content
 abbrev pub NamesPage : ℕ → StoreFault → Type 0
 NamesPage q Disk = ⊤
 NamesPage q Print = ⊤
-NamesPage q (Damaged page rule) = (page ≡ q) × (rule ≡ 9)
+NamesPage q (Damaged page rule) = (page ≡ q) × (rule ≡ rtree_rule)
 
 -- it is a page of the file, and breaks that rule
 abbrev pub NamesTree : ℕ → StoreFault → Type 0
 NamesTree pages Disk = ⊤
 NamesTree pages Print = ⊤
-NamesTree pages (Damaged page rule) = (page < pages) × (rule ≡ 9)
+NamesTree pages (Damaged page rule) = (page < pages) × (rule ≡ rtree_rule)
 
 abbrev pub NamesTreeOrLacks : ℕ → Fault → Type 0
 NamesTreeOrLacks pages (Store fault) = NamesTree pages fault
@@ -41,7 +42,7 @@ NamesTreeOrLacks pages Memory = ⊤
 abbrev pub NamesWalk : ℕ → StoreFault → Type 0
 NamesWalk pages Disk = ⊤
 NamesWalk pages Print = ⊤
-NamesWalk pages (Damaged page rule) = (page < pages) × ((rule ≡ 9) ⊎ (rule ≡ 13))
+NamesWalk pages (Damaged page rule) = (page < pages) × ((rule ≡ rtree_rule) ⊎ (rule ≡ 13))
 
 abbrev pub NamesWalkOrLacks : ℕ → Fault → Type 0
 NamesWalkOrLacks pages (Store fault) = NamesWalk pages fault

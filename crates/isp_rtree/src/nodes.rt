@@ -2,6 +2,7 @@
 ghost use Rattle.std.specs.Prelude.{◌≡◌, ◌↔◌, ◌<◌, ℕ, suc, true, IfErr, IfOk, IsTrue, OnOk};
 ghost use Rattle.isp_format.specs.Header.{header_of};
 ghost use Rattle.isp_format.specs.Ranges.{page_of};
+ghost use Rattle.isp_format.specs.Rules.{rtree_rule};
 ghost use Rattle.isp_page.specs.Steps.{IsNoDamage};
 ghost use Rattle.isp_page.specs.declared.fault.StoreFault.TheVariants.{Damaged};
 ghost use Rattle.isp_space.specs.Changes.{ReadsPages};
@@ -10,12 +11,9 @@ ghost use Rattle.isp_rnode.specs.Nodes.{IsReadable, node_of};
 ghost use Rattle.isp_rtree.specs.Calls.{HasPage, HasRoot, HasTree, NamesPage};
 ghost use Rattle.isp_rtree.specs.Trees.{IsInside, IsPageOf, IsRootOf, LeadsInside};
 
-use isp_format::{Page, PageNo, head, level_of};
+use isp_format::{Page, PageNo, RTREE_RULE, head, level_of};
 use isp_page::{Pages, StoreFault};
 use isp_rnode::{To, entry, entry_count, is_node};
-
-/// The rule of R-trees.
-const RULE: u32 = 9;
 
 /// How high above the leaves a root stands at most: a file of 65,536 pages has room for no higher tree, since each level has
 /// at least twice as many pages as the one above it.
@@ -23,11 +21,11 @@ const MOST_LEVEL: u8 = 16;
 
 /// That a page isn't what a page of an R-tree has to be.
 pub(crate) fn broken(page: PageNo) -> StoreFault
-    ensures { result ≡ Damaged page.0 9 }
+    ensures { result ≡ Damaged page.0 rtree_rule }
 {
     StoreFault::Damaged {
         page: page.0,
-        rule: RULE,
+        rule: RTREE_RULE,
     }
 }
 
