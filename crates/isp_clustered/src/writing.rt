@@ -127,7 +127,13 @@ pub fn put<P: Pages>(pages: &mut P, root: PageNo, key: i64, row: &[u8]) -> Resul
     let leaf = find_leaf(pages, root, key, &mut page)?;
     match put_in(&page, leaf.used, key, row) {
         Some(new) => {
-            count_and_replace(pages, leaf.page, &page, &new, (STORED_HEAD + row.len()) as u64)?;
+            count_and_replace(
+                pages,
+                leaf.page,
+                &page,
+                &new,
+                (STORED_HEAD + row.len()) as u64,
+            )?;
             Ok(())
         }
         None => {
