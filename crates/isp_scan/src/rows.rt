@@ -8,12 +8,10 @@ ghost use Rattle.isp_scan.specs.Scanning.{SpellsRow, updated_or_none};
 
 use crate::sets::with_sets;
 use isp_base::Bytes;
+use isp_format::MOST_SLOT;
 use isp_plain::{Assign, Column, Row, Rows, Schema, Value};
 use isp_row::{size, to_row};
 use std::alloc::{AllocError, Global};
-
-// The most bytes that a row may have.
-const ROW_LIMIT: usize = 1_000;
 
 /// The key of a row: its first value.
 pub fn key_of(row: &Row) -> i64
@@ -59,7 +57,7 @@ pub fn spell(alloc: Global, schema: &Schema, row: &Row) -> Result<Bytes, AllocEr
 fn is_too_large(schema: &Schema, row: &Row) -> bool
     ensures { result ≡ nat_lt row_limit (row_bytes schema.now row.now) }
 {
-    size(schema, row) > ROW_LIMIT
+    size(schema, row) > MOST_SLOT
 }
 
 /// The rows with the new values, or None where one of them would have more bytes than a row may have.
