@@ -1,6 +1,8 @@
 //! A table made.
 ghost use Rattle.std.specs.Prelude.{◌≡◌, ◌<◌, ◌≤◌, false, true, Err, Ok, nat_lt, IfErr, IfOk, OnOk, if◌then◌else◌};
+ghost use Rattle.isp_format.specs.Definition.{most_tables};
 ghost use Rattle.isp_format.specs.Empty.{first_fresh};
+ghost use Rattle.isp_format.specs.Rules.{space_number, space_rule};
 ghost use Rattle.isp_catalog.specs.declared.table.TableDef.{TableDef};
 ghost use Rattle.isp_clustered.specs.Calls.{Creates as Plants, HasSpace};
 ghost use Rattle.isp_image.specs.Databases.{Database};
@@ -14,15 +16,19 @@ ghost use Rattle.isp_image.specs.Faults.{NamesLater};
 
 use isp_catalog::{TableDef, add};
 use isp_clustered::create;
-use isp_format::{FIRST_FRESH, PageNo};
+use isp_format::{FIRST_FRESH, PageNo, SPACE_PAGE, SPACE_RULE};
 use isp_page::{Pages, StoreFault};
 
 // The page, where a tree may have it.
 fn root_or(page: PageNo) -> Result<PageNo, StoreFault>
-    ensures { result ≡ (if nat_lt page.0 first_fresh then Err (Damaged 0 4) else Ok page) }
+    ensures { result ≡ (if nat_lt page.0 first_fresh then Err (Damaged space_number space_rule)
+        else Ok page) }
 {
     if page.0 < FIRST_FRESH {
-        Err(StoreFault::Damaged { page: 0, rule: 4 })
+        Err(StoreFault::Damaged {
+            page: SPACE_PAGE,
+            rule: SPACE_RULE,
+        })
     } else {
         Ok(page)
     }
@@ -31,7 +37,7 @@ fn root_or(page: PageNo) -> Result<PageNo, StoreFault>
 // A tree without rows, on a page that a tree may have.
 fn plant<P: Pages>(pages: &mut P, number: u32) -> Result<PageNo, StoreFault>
     requires can { MayChange P.Pages 3 pages.old }
-    requires number { number ≤ 64 }
+    requires number { number ≤ most_tables }
     ensures kept { Continues P.Pages pages.old pages.new result }
     ensures changes { OnOk result (ChangesBy P.Pages 3 pages.old pages.new) }
     ensures from { IfOk result (λ page. first_fresh ≤ page.0) }
