@@ -65,6 +65,7 @@ impl Trx {
             self.old.session (write_at at root.0 old.now row.now marked) (P.contents pages.new)) }
         ensures noted { OnOk result (HasNoted at self.old self.new) }
         ensures failed { IfErr result (λ fault. self.new ≡ self.old) }
+        ensures session { self.new.session ≡ self.old.session }
         ensures sound { P.tells → (chains : List Chain) (chain : Chain) (d : Database) (t : FileTable) (r : Row)
             → CanWrite (P.shape pages.old).pages (P.contents pages.old) chains self.old.session chain
             (write_at at root.0 old.now row.now marked) d t r → IfErr result IsNoDamage }
