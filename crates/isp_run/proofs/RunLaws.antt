@@ -1,6 +1,5 @@
 -- What a run has printed and leaves of the file, from what its parts say.
 use Rattle.std.proofs.Common.{◌≡◌, ◌∙◌, inl, inr, ℕ, ◌≤◌, ◌+◌, ◌-◌, ◌&&◌, ap, sym, refl, subst, Bool, true, false, not, List, [], ◌∷◌, ◌++◌, length, get_or, length-append, append_assoc, All, arith}
-use Rattle.std.specs.Prelude.{map}
 use Rattle.isp_disk.specs.Moments.{Image}
 use Rattle.isp_disk.specs.declared.world.World.{Ghosts}
 use Rattle.isp_writes.specs.Causes.{FillsUp}
@@ -9,9 +8,9 @@ use Rattle.isp_format.proofs.Standing.{stands_once}
 use Rattle.isp_format.specs.Contents.{StandsFor}
 use Rattle.isp_format.specs.Control.{fanout_in, pages_in}
 use Rattle.isp_format.specs.Ranges.{Contents}
-use Rattle.isp_image.specs.Databases.{Database, FileImage, committed, put_back, tables_of}
+use Rattle.isp_image.specs.Databases.{Database, committed, put_back, tables_of}
 use Rattle.isp_chained.specs.Chained.{ChainedFile, IsKeptFile, no_chains}
-use Rattle.isp_connection.proofs.EndLaws.{none_chained}
+use Rattle.isp_chained.proofs.PlainLaws.{chained_plain}
 use Rattle.isp_page.specs.State.{FileShape}
 use Rattle.isp_plain.specs.Tables.{Table}
 use Rattle.isp_plan.proofs.FaithfulLaws.{whole_is_faithful}
@@ -44,7 +43,7 @@ pub record KeptAs (image : Image) (contents : Contents) (first : List Table) : T
 pub kept_as : (image : Image) (contents : Contents) (first : List Table) → StandsFor image contents → IsKeptFile image first → KeptAs image contents first
 kept_as image contents first stands is =
     let d = is.stands.db in
-    let none = none_chained (pages_in image) is.contents d is.stands.kept in
+    let none = (chained_plain (pages_in image) is.contents d is.stands.kept).none in
     let same : is.contents ≡ contents = stands_once image is.contents contents is.stands_for stands in
     record {
       d = d;
@@ -60,7 +59,7 @@ kept_at_rest image contents pages d after count stands rests tables = record {
   stands = record {
     db = d;
     kept = subst (λ n. ChainedFile n contents d no_chains) (sym count) rests.kept;
-    stand = committed_none d (none_chained pages contents d rests.kept) ∙ tables;
+    stand = committed_none d (chained_plain pages contents d rests.kept).none ∙ tables;
   };
   tidy = rests.tidy;
 }

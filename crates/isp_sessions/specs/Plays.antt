@@ -16,6 +16,7 @@ use Rattle.isp_page.specs.declared.pages.Pages.{Ghosts}
 use Rattle.isp_serial.specs.Alone.{AreSmall, Full, run_after, run_answers}
 use Rattle.isp_serial.specs.Spelling.{line_of}
 use Rattle.isp_serial.specs.declared.script.Script.{Script}
+use Rattle.isp_serial.specs.declared.script.Session.{Session}
 use Rattle.isp_sessions.specs.Sql.{sql}
 
 -- No transaction is open: no slot has a chain, and no row is marked.
@@ -28,6 +29,10 @@ pub record ReachesFull (pages : ℕ) (first : Database) : Type 0 where
   pub at : Database
   pub before : Reaches pages first at
   pub full : IsFull pages at
+
+-- the session's number is that of an undo slot
+abbrev pub HasSlot : Session → Type 0
+HasSlot session = session.number < undo_slots
 
 -- the numbers of the script's answers fit into 64 bits
 abbrev pub IsSmall : Script → Type 0
