@@ -1,8 +1,8 @@
 -- Laws of databases whose old rows stand in chains.
-use Rattle.std.specs.Prelude.{◌≡◌, ℕ, suc, ℤ, true, false, List, [], ◌∷◌, ◌++◌, drop, length, map, reverse, take, slice_get, slice_set, Some}
+use Rattle.std.specs.Prelude.{◌≡◌, ℕ, suc, ◌<◌, ℤ, true, false, List, [], ◌∷◌, ◌++◌, drop, map, reverse, take, slice_get, slice_set, Some}
 use Rattle.std.specs.List.{list_any}
-use Rattle.isp_format.specs.Ranges.{Contents}
-use Rattle.isp_format.specs.Undo.{OldImage}
+use Rattle.isp_format.specs.Ranges.{Contents, page_of}
+use Rattle.isp_format.specs.Undo.{IsUndoDirectory, OldImage, undo_slots}
 use Rattle.isp_plain.specs.Tables.{definition_of}
 use Rattle.isp_changes.specs.Changes.{after_change, row_in}
 use Rattle.isp_space.specs.Giving.{with_chain}
@@ -12,7 +12,8 @@ use Rattle.isp_image.specs.Databases.{Database, FileImage, FileRow, committed, t
 use Rattle.isp_image.specs.Files.{KeptFile, is_owner, of_slot}
 use Rattle.isp_undo.specs.Calls.{HasStack, Restacks, page_taken, space_after}
 use Rattle.isp_undo.specs.Chains.{Chain, ends_of, gone, images_of, pages_of, popped, pushed, without_last}
-use Rattle.isp_chained.specs.Chained.{ChainedFile, Holds, StandsChained, images_in, is_held, no_chains}
+use Rattle.isp_chained.specs.Chained.{ChainedFile, Holds, StandsChained, alone, images_in, no_chains, no_slots, old_of}
+use Rattle.isp_chained.specs.Courses.{Reaches, Step}
 use Rattle.isp_chained.specs.Steps.{AreDisjoint, FinishesAmong, IsFreeIn, NotesAmong, UndoesAmong}
 
 -- ---- steps of databases
@@ -104,11 +105,11 @@ FinishingKeepsDisjoint = (chains : List Chain) (slot : ℕ) (chain : Chain) → 
 
 -- ---- files without chains
 
--- a kept file without old rows, whose pages in use are free or a table's
+-- a kept file without old rows, of whose pages in use none is a slot's
 pub record IsPlainFile (pages : ℕ) (contents : Contents) (db : Database) : Type 0 where
   pub kept : KeptFile pages contents db
+  pub directory : IsUndoDirectory (page_of contents 1) no_slots
   pub none : db.images ≡ []
-  pub held : (page : ℕ) → is_held (length db.tables) (kept.owner page) ≡ true
   pub slots : (slot page : ℕ) → is_owner (of_slot slot) (kept.owner page) ≡ false
 
 -- it is a file with chains that has none
@@ -121,3 +122,38 @@ ChainedIsPlain = (pages : ℕ) (contents : Contents) (db : Database) → Chained
 -- and it stands for the tables of now
 abbrev pub PlainStands : Type 0
 PlainStands = (pages : ℕ) (contents : Contents) (db : Database) → IsPlainFile pages contents db → StandsChained pages contents no_chains (tables_of db)
+
+-- ---- files with one chain
+
+-- where one slot alone has a chain the old rows are its own, the newest first, and no two slots name one key
+pub record OneChain (slot : ℕ) (chain : Chain) (db : Database) : Type 0 where
+  pub own : slice_get (alone slot chain) slot ≡ Some chain
+  pub images : map old_of db.images ≡ reverse (images_of chain)
+  pub newer : newer_of slot (alone slot chain) ≡ []
+  pub older : older_of slot (alone slot chain) ≡ []
+  pub disjoint : AreDisjoint (alone slot chain)
+  pub free : (image : OldImage) → IsFreeIn image slot (alone slot chain)
+  pub next : (after : Chain) → slice_set (alone slot chain) slot after ≡ alone slot after
+
+abbrev pub AloneIsOne : Type 0
+AloneIsOne = (pages : ℕ) (contents : Contents) (db : Database) (slot : ℕ) (chain : Chain) → slot < undo_slots → ChainedFile pages contents db (alone slot chain) → OneChain slot chain db
+
+-- an empty one is none
+abbrev pub AloneIsNone : Type 0
+AloneIsNone = (slot : ℕ) → alone slot [] ≡ no_chains
+
+-- ---- what isn't named, and pages that aren't used
+
+-- where no old row is of a key the committed row is that of now
+abbrev pub UnnamedIsCommitted : Type 0
+UnnamedIsCommitted = (pages : ℕ) (contents : Contents) (db : Database) (chains : List Chain) (place : ℕ) (key : ℤ) → Holds pages contents db chains
+    → list_any (names place key) db.images ≡ false → row_in (committed db) place key ≡ row_in (tables_of db) place key
+
+-- pages that were never used may have any bytes
+abbrev pub ChainedIsLocal : Type 0
+ChainedIsLocal = (pages : ℕ) (old new : Contents) (db : Database) (chains : List Chain) → ChainedFile pages old db chains
+    → ((page : ℕ) → page < db.space.fresh → page_of new page ≡ page_of old page) → ChainedFile pages new db chains
+
+-- a course goes on by what is kept
+abbrev pub CourseGoesOn : Type 0
+CourseGoesOn = (pages : ℕ) (contents : Contents) (chains : List Chain) (first d after : Database) → Reaches pages first d → Step d after → ChainedFile pages contents after chains → Reaches pages first after

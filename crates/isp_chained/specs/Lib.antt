@@ -1,3 +1,4 @@
 pub mod Chained
+pub mod Courses
 pub mod Laws
 pub mod Steps

@@ -1,5 +1,5 @@
 //! What the steps of a database with chains leave of its tables, and the calls on chains of its pages.
-ghost use Rattle.isp_chained.specs.Laws.{ChainedIsPlain, FinishingCommits, FinishingHolds, FinishingKeepsDisjoint, NotingKeeps, PlainIsChained, PlainStands, PoppingHolds, PoppingKeepsDisjoint, PushingHolds, PushingKeepsDisjoint, PushingNotes, SlotsHaveStacks, SlotsStandInOrder, UndoingKeeps};
+ghost use Rattle.isp_chained.specs.Laws.{AloneIsNone, AloneIsOne, ChainedIsLocal, ChainedIsPlain, CourseGoesOn, FinishingCommits, FinishingHolds, FinishingKeepsDisjoint, NotingKeeps, PlainIsChained, PlainStands, PoppingHolds, PoppingKeepsDisjoint, PushingHolds, PushingKeepsDisjoint, PushingNotes, SlotsHaveStacks, SlotsStandInOrder, UndoingKeeps, UnnamedIsCommitted};
 
 /// A row that is written, with what stood there noted in a slot, leaves the committed tables.
 pub fn law_noting_keeps()
@@ -74,4 +74,29 @@ pub fn law_chained_is_plain()
 /// A kept file without old rows stands for its tables of now.
 pub fn law_plain_stands()
     ensures { PlainStands }
+{}
+
+/// Where one slot alone has a chain the old rows are its own.
+pub fn law_alone_is_one()
+    ensures { AloneIsOne }
+{}
+
+/// Where that one is empty no slot has a chain.
+pub fn law_alone_is_none()
+    ensures { AloneIsNone }
+{}
+
+/// Where no old row is of a key the committed row is that of now.
+pub fn law_unnamed_is_committed()
+    ensures { UnnamedIsCommitted }
+{}
+
+/// A file with chains stands on its pages in use alone.
+pub fn law_chained_is_local()
+    ensures { ChainedIsLocal }
+{}
+
+/// A course goes on by what is kept.
+pub fn law_course_goes_on()
+    ensures { CourseGoesOn }
 {}

@@ -1,5 +1,5 @@
 -- How a statement ends: what it is answered and leaves, committed or not.
-use Rattle.std.proofs.Common.{◌≡◌, ℕ, Bool, true, false, List, [], ◌∷◌, ◌++◌, length, map, refl, sym, ◌∙◌, ap, subst, arith, if◌then◌else◌}
+use Rattle.std.proofs.Common.{◌≡◌, ℕ, ◌<◌, Bool, true, false, List, [], ◌∷◌, ◌++◌, length, map, refl, sym, ◌∙◌, ap, subst, arith, if◌then◌else◌}
 use Rattle.std.specs.Prelude.{Result, Ok, Err, IfOk}
 use Rattle.isp_catalog.specs.declared.table.TableDef.{TableDef}
 use Rattle.isp_changes.specs.Changes.{RowChange, after_change, after_changes}
@@ -12,12 +12,16 @@ use Rattle.isp_exec.specs.Starting.{Suits, place_by}
 use Rattle.isp_exec.proofs.FitLaws.{start_fit}
 use Rattle.isp_exec.proofs.ReadAtLaws.{start_at_file, start_statement}
 use Rattle.isp_writes.specs.Writing.{DidUndo}
-use Rattle.isp_image.specs.Courses.{Reaches}
+use Rattle.isp_chained.specs.Courses.{Reaches}
 use Rattle.isp_format.specs.Ranges.{Contents}
-use Rattle.isp_format.specs.Undo.{OldImage}
+use Rattle.isp_format.specs.Undo.{undo_slots}
 use Rattle.isp_image.specs.Databases.{Database, FileImage, FileTable, HasNoMarked, back_of, committed, tables_of}
-use Rattle.isp_image.specs.Files.{KeptFile}
-use Rattle.isp_image.proofs.StepLaws.{reaches_more, reaches_on, reaches_self}
+use Rattle.isp_undo.specs.Chains.{Chain}
+use Rattle.isp_chained.specs.Chained.{ChainedFile, alone, no_chains}
+use Rattle.isp_chained.specs.Laws.{OneChain}
+use Rattle.isp_chained.proofs.AloneLaws.{alone_is_none, alone_is_one}
+use Rattle.isp_chained.proofs.PlainLaws.{chained_plain}
+use Rattle.isp_chained.proofs.CourseLaws.{reaches_more, reaches_on, reaches_self}
 use Rattle.isp_page.specs.declared.fault.Fault.{Fault}
 use Rattle.isp_page.specs.declared.pages.Pages.{Ghosts}
 use Rattle.isp_plain.specs.Does.{Outcome, answered, does}
@@ -31,9 +35,9 @@ use Rattle.isp_plain.specs.declared.statement.Statement.{Statement}
 use Rattle.isp_plain.specs.declared.statement.Statement.TheVariants.{Create, Insert, Select, Update, Delete, Begin, Commit, Rollback, Refused}
 use Rattle.isp_serial.specs.Alone.{State, after_statement, changed, effect_by, rolled_back, settled}
 use Rattle.isp_serial.specs.Transactions.{stays}
-use Rattle.isp_trx.specs.Transactions.{HasForgotten, IsNew, TrxState}
-use Rattle.isp_trx.specs.Writes.{DidCommit}
-use Rattle.isp_trx.specs.declared.noted.RowKey.{RowKey}
+use Rattle.isp_trx.specs.Transactions.{HasCommitted, IsNew, TrxState}
+use Rattle.isp_trx.specs.Writes.{CanCommit, DidCommit}
+use Rattle.isp_trx.specs.declared.keys.RowKey.{RowKey}
 use Rattle.isp_trx_laws.specs.Written.{AreWritten}
 use Rattle.isp_trx_laws.proofs.MarkLaws.{commit_adds_none, none_written}
 use Rattle.isp_work.specs.Starting.{start_of}
@@ -54,31 +58,51 @@ module _ {S : Type 0} (g : Ghosts S) (now : S) (i : Inside) (c : ConnectionState
   hold_inside state d h = subst (λ (s : ConnectionState). Holds g now s state d) (sym is) h
 
   -- a statement begins on it
-  pub fit_inside : (statement : Statement) (work : Work) → work ≡ start_of statement (length i.trx.images) (place_by i.tables statement) → Suits c.defs statement → IsFit i.tables work
+  pub fit_inside : (statement : Statement) (work : Work) → work ≡ start_of statement (i.trx.count) (place_by i.tables statement) → Suits c.defs statement → IsFit i.tables work
   fit_inside statement work begun suits =
-      subst (λ (w : Work). IsFit i.tables w) (sym begun) (start_fit i.tables statement (length i.trx.images) (subst (λ (s : ConnectionState). Suits s.defs statement) (sym is) suits))
+      subst (λ (w : Work). IsFit i.tables w) (sym begun) (start_fit i.tables statement (i.trx.count) (subst (λ (s : ConnectionState). Suits s.defs statement) (sym is) suits))
 
-  pub start_inside : (state : State) (d : Database) (statement : Statement) (work : Work) → work ≡ start_of statement (length i.trx.images) (place_by i.tables statement) → Holds g now c state d → is_lined_statement statement ≡ true → IsAt g now i.tables i.trx d work
+  pub start_inside : (state : State) (d : Database) (statement : Statement) (work : Work) → work ≡ start_of statement (i.trx.count) (place_by i.tables statement) → Holds g now c state d → is_lined_statement statement ≡ true → IsAt g now i.tables i.trx d work
   start_inside state d statement work begun h lined =
       subst (λ (w : Work). IsAt g now i.tables i.trx d w) (sym begun) (start_at_file g now i.tables i.trx d statement (open_inside d h.opened) lined)
 
 -- ---- a connection is opened
 
-pub opens : {S : Type 0} (g : Ghosts S) (old new : S) (session : ℕ) (defs : List TableDef) (trx : TrxState) (d : Database) → (g.shape new).pages ≡ (g.shape old).pages → g.contents new ≡ g.contents old → KeptFile (g.shape old).pages (g.contents old) d
-    → d.images ≡ [] → HasNoMarked d → defs ≡ defs_in d → IsNew session trx → Holds g new (record { inside = false; defs = defs; trx = trx }) (settled (tables_of d)) d
-opens g old new session defs trx d pages contents kept none tidy are fresh = record {
-  opened = record {
-    kept = subst (λ (n : ℕ). KeptFile n (g.contents new) d) (sym pages) (subst (λ (c : Contents). KeptFile (g.shape old).pages c d) (sym contents) kept);
-    defs_are = sym are;
-    noted = ap (map (λ (i : FileImage). i.image)) none ∙ sym fresh.images;
-    written = subst (λ (keys : List RowKey). AreWritten keys d) (sym fresh.keys) (none_written d none tidy);
-  };
-  outside = λ _. fresh.images;
-  setup = λ _. refl;
-  inside = refl;
-  present = refl;
-  committed_are = ap (λ (l : List FileImage). after_changes (tables_of d) (map back_of l)) none;
-}
+-- where no slot has a chain no old row is noted
+pub none_chained : (pages : ℕ) (contents : Contents) (d : Database) → ChainedFile pages contents d no_chains → d.images ≡ []
+none_chained pages contents d kept = (chained_plain pages contents d kept).none
+
+-- a file without chains is one where that slot alone has an empty one
+pub as_alone : (slot pages : ℕ) (contents : Contents) (d : Database) → ChainedFile pages contents d no_chains → ChainedFile pages contents d (alone slot [])
+as_alone slot pages contents d kept = subst (λ (chains : List Chain). ChainedFile pages contents d chains) (sym (alone_is_none slot)) kept
+
+pub as_plain : (slot pages : ℕ) (contents : Contents) (d : Database) (chain : Chain) → chain ≡ [] → ChainedFile pages contents d (alone slot chain) → ChainedFile pages contents d no_chains
+as_plain slot pages contents d chain none kept = subst (λ (chains : List Chain). ChainedFile pages contents d chains) (ap (alone slot) none ∙ alone_is_none slot) kept
+
+-- the same of other pages that are as many and have the same contents
+pub kept_same : (n m : ℕ) (old new : Contents) (d : Database) (chains : List Chain) → m ≡ n → new ≡ old → ChainedFile n old d chains → ChainedFile m new d chains
+kept_same n m old new d chains pages contents kept =
+    subst (λ (k : ℕ). ChainedFile k new d chains) (sym pages) (subst (λ (c : Contents). ChainedFile n c d chains) (sym contents) kept)
+
+pub opens : {S : Type 0} (g : Ghosts S) (old new : S) (session : ℕ) (defs : List TableDef) (trx : TrxState) (d : Database) → (g.shape new).pages ≡ (g.shape old).pages → g.contents new ≡ g.contents old → ChainedFile (g.shape old).pages (g.contents old) d no_chains
+    → HasNoMarked d → defs ≡ defs_in d → session < undo_slots → IsNew session trx → Holds g new (record { inside = false; defs = defs; trx = trx }) (settled (tables_of d)) d
+opens g old new session defs trx d pages contents kept tidy are slot fresh =
+    let none : d.images ≡ [] = none_chained (g.shape old).pages (g.contents old) d kept in
+    record {
+      opened = record {
+        chain = [];
+        kept = kept_same (g.shape old).pages (g.shape new).pages (g.contents old) (g.contents new) d (alone trx.session []) pages contents (as_alone trx.session (g.shape old).pages (g.contents old) d kept);
+        slot = subst (λ (n : ℕ). n < undo_slots) (sym fresh.session_is) slot;
+        defs_are = sym are;
+        noted = fresh.count ∙ sym (ap (λ (l : List FileImage). length l) none);
+        written = subst (λ (keys : List RowKey). AreWritten keys d) (sym fresh.keys) (none_written d none tidy);
+      };
+      outside = λ _. refl;
+      setup = λ _. refl;
+      inside = refl;
+      present = refl;
+      committed_are = ap (λ (l : List FileImage). after_changes (tables_of d) (map back_of l)) none;
+    }
 
 -- the tables are served as before
 pub still_serves : {S : Type 0} (g : Ghosts S) (old new : S) (defs : List TableDef) → Serves g old defs → (g.shape new).pages ≡ (g.shape old).pages → g.usable new ≡ true → (g.mini new).is_begun ≡ false → Serves g new defs
@@ -178,7 +202,7 @@ holds_inside g now c state d db after false opened setup same inside present tab
   committed_are = stand ∙ sym (ap (λ (b : Bool). if b then state.committed else after) inside);
 }
 
-holds_outside : {S : Type 0} (g : Ghosts S) (now : S) (c : ConnectionState) (state : State) (d db : Database) (after : List Table) (full : Bool) → IsOpen g now c.defs c.trx db → c.trx.images ≡ [] → (c.trx.session ≡ 0 → c.inside ≡ false) → c.inside ≡ state.inside → state.inside ≡ false
+holds_outside : {S : Type 0} (g : Ghosts S) (now : S) (c : ConnectionState) (state : State) (d db : Database) (after : List Table) (full : Bool) (opened : IsOpen g now c.defs c.trx db) → opened.chain ≡ [] → (c.trx.session ≡ 0 → c.inside ≡ false) → c.inside ≡ state.inside → state.inside ≡ false
     → tables_of d ≡ state.present → state.committed ≡ state.present → tables_of db ≡ (if full then tables_of d else after) → committed db ≡ tables_of db → Holds g now c (if full then state else changed state after) db
 holds_outside g now c state d db after true opened none setup same outside present rest tables stand = record {
   opened = opened;
@@ -197,15 +221,14 @@ holds_outside g now c state d db after false opened none setup same outside pres
   committed_are = stand ∙ tables ∙ sym (ap (λ (b : Bool). if b then state.committed else after) outside);
 }
 
-pub none_mapped : (images : List FileImage) → map (λ (i : FileImage). i.image) images ≡ [] → images ≡ []
-none_mapped [] none = refl
-none_mapped (i ∷ images) none = cc
+-- outside of a transaction no old row is noted
+pub none_outside : {S : Type 0} (g : Ghosts S) (now : S) (defs : List TableDef) (trx : TrxState) (d : Database) (opened : IsOpen g now defs trx d) → opened.chain ≡ [] → d.images ≡ []
+none_outside g now defs trx d opened none = none_chained (g.shape now).pages (g.contents now) d (as_plain trx.session (g.shape now).pages (g.contents now) d opened.chain none opened.kept)
 
 -- outside of a transaction the tables of now are the committed ones
 pub at_rest : {S : Type 0} (g : Ghosts S) (now : S) (c : ConnectionState) (state : State) (d : Database) → Holds g now c state d → state.inside ≡ false → state.committed ≡ state.present
 at_rest g now c state d h outside =
-    let none : c.trx.images ≡ [] = h.outside (h.inside ∙ outside) in
-    let images : d.images ≡ [] = none_mapped d.images (h.opened.noted ∙ none) in
+    let images : d.images ≡ [] = none_outside g now c.defs c.trx d h.opened (h.outside (h.inside ∙ outside)) in
     sym h.committed_are ∙ ap (λ (l : List FileImage). after_changes (tables_of d) (map back_of l)) images ∙ h.present
 
 fills_later : (pages : ℕ) (start d after : Database) → FillsUp pages start d → Reaches pages d after → FillsUp pages start after
@@ -287,23 +310,36 @@ answered_ok g now c state d said s is comes = record { full = false; answer_is =
 
 -- ---- a transaction ends
 
-module _ {S : Type 0} (g : Ghosts S) (old new : S) (defs : List TableDef) (trx trx_now : TrxState) (d : Database) (opened : IsOpen g old defs trx d) (pages : (g.shape new).pages ≡ (g.shape old).pages) (ended : HasForgotten trx trx_now) where
-  pub commits_all : DidCommit (g.shape old).pages (g.contents new) d → CommitsAll g new defs trx_now d
+module _ {S : Type 0} (g : Ghosts S) (old new : S) (defs : List TableDef) (trx trx_now : TrxState) (d : Database) (opened : IsOpen g old defs trx d) (pages : (g.shape new).pages ≡ (g.shape old).pages) (ended : HasCommitted trx trx_now) where
+  abbrev chains : List Chain
+  chains = alone trx.session opened.chain
+
+  one : OneChain trx.session opened.chain d
+  one = alone_is_one (g.shape old).pages (g.contents old) d trx.session opened.chain opened.slot opened.kept
+
+  pub can_commit : CanCommit (g.shape old).pages (g.contents old) chains trx.session opened.chain d
+  can_commit = record { kept = opened.kept; own = one.own; disjoint = one.disjoint }
+
+  pub commits_all : DidCommit (g.shape old).pages (g.contents new) chains trx.session opened.chain d → CommitsAll g new defs trx_now d
   commits_all k =
       let n = (g.shape new).pages in
-      let kept_now : KeptFile n (g.contents new) k.after = subst (λ (m : ℕ). KeptFile m (g.contents new) k.after) (sym pages) k.kept in
+      let free : ChainedFile (g.shape old).pages (g.contents new) k.after no_chains = subst (λ (l : List Chain). ChainedFile (g.shape old).pages (g.contents new) k.after l) (one.next [] ∙ alone_is_none trx.session) k.kept in
+      let kept_now : ChainedFile n (g.contents new) k.after no_chains = subst (λ (m : ℕ). ChainedFile m (g.contents new) k.after no_chains) (sym pages) free in
+      let none : k.after.images ≡ [] = none_chained n (g.contents new) k.after kept_now in
       record {
         after = k.after;
         opened = record {
-          kept = kept_now;
+          chain = [];
+          kept = as_alone trx_now.session n (g.contents new) k.after kept_now;
+          slot = subst (λ (m : ℕ). m < undo_slots) (sym ended.session) opened.slot;
           defs_are = ap (map (λ (t : FileTable). t.def)) k.tables ∙ opened.defs_are;
-          noted = ap (map (λ (i : FileImage). i.image)) k.none ∙ sym ended.images;
-          written = subst (λ (keys : List RowKey). AreWritten keys k.after) (sym ended.keys) (commit_adds_none (g.shape old).pages (g.contents new) trx.keys d opened.written k);
+          noted = ended.count ∙ sym (ap (λ (l : List FileImage). length l) none);
+          written = subst (λ (keys : List RowKey). AreWritten keys k.after) (sym ended.keys) (commit_adds_none (g.shape old).pages (g.contents new) chains trx.session opened.chain trx.keys d opened.written k);
         };
-        none = ended.images;
-        same = k.now;
-        committed_are = k.same;
-        reaches = reaches_more n d d k.after (reaches_self n d) k.step (g.contents new, kept_now);
+        none = refl;
+        same = k.finishing.now;
+        committed_are = ap (λ (l : List FileImage). after_changes (tables_of k.after) (map back_of l)) none ∙ k.finishing.now;
+        reaches = reaches_more n d d k.after (reaches_self n d) k.step (g.contents new, no_chains, kept_now);
       }
 
 pub comes_settled : {S : Type 0} (g : Ghosts S) (now : S) (defs : List TableDef) (trx : TrxState) (d : Database) → CommitsAll g now defs trx d → Comes g now (record { inside = false; defs = defs; trx = trx }) (settled (tables_of d)) d
@@ -352,9 +388,13 @@ undid_more g mid new defs trx trx_now d some pages u =
       reaches = reaches_on n d some.after u.after (subst (λ (m : ℕ). Reaches m d some.after) (sym pages) some.reaches) u.reaches;
     }
 
-pub all_undone : {S : Type 0} (g : Ghosts S) (now : S) (defs : List TableDef) (trx : TrxState) (d : Database) → UndidSome g now defs trx d → trx.images ≡ [] → GoesBack g now defs trx d
+no_length : (images : List FileImage) → length images ≡ 0 → images ≡ []
+no_length [] none = refl
+no_length (i ∷ images) none = absurd (omega (arith, none))
+
+pub all_undone : {S : Type 0} (g : Ghosts S) (now : S) (defs : List TableDef) (trx : TrxState) (d : Database) → UndidSome g now defs trx d → trx.count ≡ 0 → GoesBack g now defs trx d
 all_undone g now defs trx d some none =
-    let images : some.after.images ≡ [] = none_mapped some.after.images (some.opened.noted ∙ none) in
+    let images : some.after.images ≡ [] = no_length some.after.images (sym some.opened.noted ∙ none) in
     record {
       after = some.after;
       opened = some.opened;
@@ -363,6 +403,3 @@ all_undone g now defs trx d some none =
       reaches = some.reaches;
     }
 
-pub no_length : (images : List OldImage) → length images ≡ 0 → images ≡ []
-no_length [] none = refl
-no_length (i ∷ images) none = absurd (omega (arith, none))

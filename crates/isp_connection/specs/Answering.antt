@@ -2,7 +2,7 @@
 use Rattle.std.specs.Prelude.{◌≡◌, ℕ, Bool, true, false, List, [], if◌then◌else◌}
 use Rattle.isp_catalog.specs.declared.table.TableDef.{TableDef}
 use Rattle.isp_writes.specs.Causes.{FillsUp}
-use Rattle.isp_image.specs.Courses.{Reaches}
+use Rattle.isp_chained.specs.Courses.{Reaches}
 use Rattle.isp_tables.specs.Opened.{IsOpen}
 use Rattle.isp_image.specs.Databases.{Database, HasNoMarked, committed, tables_of}
 use Rattle.isp_page.specs.declared.pages.Pages.{Ghosts}
@@ -83,7 +83,7 @@ pub record GoesBack {S : Type 0} (g : Ghosts S) (now : S) (defs : List TableDef)
 pub record CommitsAll {S : Type 0} (g : Ghosts S) (now : S) (defs : List TableDef) (trx : TrxState) (old : Database) : Type 0 where
   pub after : Database
   pub opened : IsOpen g now defs trx after
-  pub none : trx.images ≡ []
+  pub none : opened.chain ≡ []
   pub same : tables_of after ≡ tables_of old
   pub committed_are : committed after ≡ tables_of old
   pub reaches : Reaches (g.shape now).pages old after

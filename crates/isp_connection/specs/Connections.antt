@@ -17,11 +17,11 @@ pub record ConnectionState : Type 0 where
 abbrev pub state_of : Inside → ConnectionState
 state_of c = record { inside = c.inside; defs = c.tables; trx = c.trx }
 
--- The store has the database, which the connection has open. Outside of a transaction no old row is noted. Its tables are the present
+-- The store has the database, which the connection has open. Outside of a transaction no slot has a chain. Its tables are the present
 -- ones, and with the old rows put back the committed ones.
 pub record Holds {S : Type 0} (g : Ghosts S) (now : S) (c : ConnectionState) (state : State) (d : Database) : Type 0 where
   pub opened : IsOpen g now c.defs c.trx d
-  pub outside : c.inside ≡ false → c.trx.images ≡ []
+  pub outside : c.inside ≡ false → opened.chain ≡ []
   -- none begins in the setup
   pub setup : c.trx.session ≡ 0 → c.inside ≡ false
   pub inside : c.inside ≡ state.inside

@@ -4,7 +4,8 @@ ghost use Rattle.std.specs.Prelude.{◌≡◌, [], true, false, IfErr, IfOk, OnO
 ghost use Rattle.isp_tables.specs.Calls.{Keeps, Serves};
 ghost use Rattle.isp_tables.specs.TableLists.{definitions_of};
 ghost use Rattle.isp_image.specs.Databases.{Database, HasNoMarked, tables_of};
-ghost use Rattle.isp_image.specs.Files.{KeptFile};
+ghost use Rattle.isp_chained.specs.Chained.{ChainedFile, no_chains};
+ghost use Rattle.isp_format.specs.Undo.{undo_slots};
 ghost use Rattle.isp_page.specs.Calls.{ContinuesOrLacks};
 ghost use Rattle.isp_page.specs.Steps.{IsNoDamageOrLacks};
 ghost use Rattle.isp_plain.specs.declared.statement.Statement.{Statement};
@@ -59,12 +60,14 @@ fn place_of(session: u32, inside: bool) -> Place
 }
 
 impl Connection {
-    /// A connection of that session to the file, of which no transaction is unfinished and no row is marked.
+    /// A connection of that session, whose number is that of its undo slot, to the file, of which no transaction is unfinished and
+    /// no row is marked.
     ///
     /// # Errors
     ///
     /// Disk; want of memory; or Damaged, as of `load` of isp_catalog.
     pub fn open<P: Pages>(alloc: Global, pages: &mut P, session: u32) -> Result<Connection, Fault>
+        requires slot { session < undo_slots }
         requires usable { P.usable pages.old ≡ true }
         requires none { (P.mini pages.old).is_begun ≡ false }
         ensures kept { ContinuesOrLacks P.Pages pages.old pages.new result }
@@ -72,11 +75,11 @@ impl Connection {
         ensures serves { IfOk result (λ c. Serves P.Pages pages.new c.defs) }
         ensures session { IfOk result (λ c. c.trx.session ≡ session) }
         ensures opened { P.tells → (d : Database)
-            → KeptFile (P.shape pages.old).pages (P.contents pages.old) d → d.images ≡ []
+            → ChainedFile (P.shape pages.old).pages (P.contents pages.old) d no_chains
             → HasNoMarked d
             → IfOk result (λ c. Holds P.Pages pages.new c (settled (tables_of d)) d) }
         ensures sound { P.tells → (d : Database)
-            → KeptFile (P.shape pages.old).pages (P.contents pages.old) d
+            → ChainedFile (P.shape pages.old).pages (P.contents pages.old) d no_chains
             → IfErr result IsNoDamageOrLacks }
         ensures later { IfErr result NamesLaterOrLacks }
     {

@@ -46,7 +46,9 @@ pub(crate) fn settle<P: Pages>(pages: &mut P, trx: &mut Trx, inside: bool) -> Re
     ensures settled { P.tells → (defs : List TableDef) (d : Database)
         → IsOpen P.Pages pages.old defs trx.old d
         → OnOk result (Settles P.Pages pages.new defs trx.new inside d) }
-    ensures sound { IfErr result IsNoDamageOrLacks }
+    ensures sound { P.tells → (defs : List TableDef) (d : Database)
+        → IsOpen P.Pages pages.old defs trx.old d → IfErr result IsNoDamageOrLacks }
+    ensures later { IfErr result NamesLaterOrLacks }
 {
     if inside {
         return Ok(());
@@ -65,7 +67,10 @@ impl Connection {
         ensures done { P.tells → (d : Database)
             → IsOpen P.Pages pages.old self.old.defs self.old.trx d
             → OnOk result (Comes P.Pages pages.new self.new (settled (tables_of d)) d) }
-        ensures sound { IfErr result IsNoDamageOrLacks }
+        ensures sound { P.tells → (d : Database)
+            → IsOpen P.Pages pages.old self.old.defs self.old.trx d
+            → IfErr result IsNoDamageOrLacks }
+        ensures later { IfErr result NamesLaterOrLacks }
     {
         settle(pages, &mut self.trx, false)?;
         self.inside = false;

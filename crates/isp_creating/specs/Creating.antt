@@ -8,9 +8,10 @@ use Rattle.isp_catalog.specs.Catalogue.{has_table}
 use Rattle.isp_catalog.specs.Limits.{AreColumns, IsName}
 use Rattle.isp_catalog.specs.declared.table.TableDef.{TableDef}
 use Rattle.isp_space.specs.Spaces.{free_pages}
-use Rattle.isp_image.specs.Courses.{Step}
 use Rattle.isp_image.specs.Databases.{Database, FileTable, committed, tables_of}
-use Rattle.isp_image.specs.Files.{KeptFile}
+use Rattle.isp_chained.specs.Chained.{ChainedFile}
+use Rattle.isp_chained.specs.Courses.{Step}
+use Rattle.isp_undo.specs.Chains.{Chain}
 
 abbrev pub definitions : Database → List TableDef
 definitions d = map (λ (t : FileTable). t.def) d.tables
@@ -22,9 +23,9 @@ pub record MayDefine (def : TableDef) : Type 0 where
   pub name_is : IsName def.name
   pub columns : AreColumns def.schema.columns
 
--- the contents are this database, the number is the next, the name is new, and there is a free page
-pub record CanCreate (pages : ℕ) (contents : Contents) (number : ℕ) (name : List ℕ) (d : Database) : Type 0 where
-  pub kept : KeptFile pages contents d
+-- the contents are this database with these chains, the number is the next, the name is new, and there is a free page
+pub record CanCreate (pages : ℕ) (contents : Contents) (chains : List Chain) (number : ℕ) (name : List ℕ) (d : Database) : Type 0 where
+  pub kept : ChainedFile pages contents d chains
   pub next : number ≡ length d.tables + 1
   pub new : has_table (definitions d) name ≡ false
   pub free : 0 < free_pages pages d.space
@@ -33,10 +34,10 @@ pub record CanCreate (pages : ℕ) (contents : Contents) (number : ℕ) (name : 
 abbrev pub with_root : PageNo → TableDef → TableDef
 with_root root def = record def { root = root }
 
--- The contents now are the database with a table of that definition, which has no row; so are the committed tables.
-pub record Created (pages : ℕ) (contents : Contents) (def : TableDef) (d : Database) : Type 0 where
+-- The contents now are the database with a table of that definition, which has no row; so are the committed tables. The chains stay.
+pub record Created (pages : ℕ) (contents : Contents) (chains : List Chain) (def : TableDef) (d : Database) : Type 0 where
   pub after : Database
-  pub kept : KeptFile pages contents after
+  pub kept : ChainedFile pages contents after chains
   pub table : FileTable
   pub def_is : table.def ≡ def
   pub empty : table.rows ≡ []
@@ -46,6 +47,6 @@ pub record Created (pages : ℕ) (contents : Contents) (def : TableDef) (d : Dat
   pub same : committed after ≡ with_empty (committed d) def.name def.schema
   pub step : Step d after
 
--- what the call makes of contents, whatever database they are
+-- what the call makes of contents, whatever database and chains they are
 pub record Creates (pages : ℕ) (old : Contents) (def : TableDef) (new : Contents) : Type 0 where
-  pub makes : (d : Database) → CanCreate pages old def.number def.name d → (root : PageNo) × Created pages new (with_root root def) d
+  pub makes : (chains : List Chain) (d : Database) → CanCreate pages old chains def.number def.name d → (root : PageNo) × Created pages new chains (with_root root def) d

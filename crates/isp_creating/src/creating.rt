@@ -1,11 +1,12 @@
 //! A table made.
-ghost use Rattle.std.specs.Prelude.{◌≡◌, ◌<◌, ◌≤◌, false, true, Err, Ok, nat_lt, IfErr, IfOk, OnOk, if◌then◌else◌};
+ghost use Rattle.std.specs.Prelude.{List, ◌≡◌, ◌<◌, ◌≤◌, false, true, Err, Ok, nat_lt, IfErr, IfOk, OnOk, if◌then◌else◌};
 ghost use Rattle.isp_format.specs.Definition.{most_tables};
 ghost use Rattle.isp_format.specs.Empty.{first_fresh};
 ghost use Rattle.isp_format.specs.Rules.{space_number, space_rule};
 ghost use Rattle.isp_catalog.specs.declared.table.TableDef.{TableDef};
 ghost use Rattle.isp_clustered.specs.Calls.{Creates as Plants, HasSpace};
 ghost use Rattle.isp_image.specs.Databases.{Database};
+ghost use Rattle.isp_undo.specs.Chains.{Chain};
 ghost use Rattle.isp_page.specs.Calls.{Continues, MakesWith};
 ghost use Rattle.isp_page.specs.Steps.{FailsOnPages, IsNoDamage};
 ghost use Rattle.isp_page.specs.declared.fault.StoreFault.TheVariants.{Damaged};
@@ -62,11 +63,11 @@ fn fill<P: Pages>(pages: &mut P, def: &mut TableDef) -> Result<(), StoreFault>
     ensures begun { OnOk result ((P.mini pages.new).is_begun ≡ true) }
     ensures def { def.new ≡ with_root def.new.root def.old }
     ensures inside { OnOk result (def.new.root.0 < (P.shape pages.old).pages) }
-    ensures created { P.tells → (d : Database) → CanCreate (P.shape pages.old).pages
-        (P.contents pages.old) def.old.number def.old.name d
-        → OnOk result (Created (P.shape pages.old).pages (P.contents pages.new) def.new d) }
-    ensures sound { P.tells → (d : Database) → CanCreate (P.shape pages.old).pages
-        (P.contents pages.old) def.old.number def.old.name d → IfErr result IsNoDamage }
+    ensures created { P.tells → (chains : List Chain) (d : Database) → CanCreate (P.shape pages.old).pages
+        (P.contents pages.old) chains def.old.number def.old.name d
+        → OnOk result (Created (P.shape pages.old).pages (P.contents pages.new) chains def.new d) }
+    ensures sound { P.tells → (chains : List Chain) (d : Database) → CanCreate (P.shape pages.old).pages
+        (P.contents pages.old) chains def.old.number def.old.name d → IfErr result IsNoDamage }
     ensures later { IfErr result NamesLater }
 {
     let root = plant(pages, def.number)?;
@@ -86,11 +87,11 @@ fn begin_create<P: Pages>(pages: &mut P, def: &mut TableDef) -> Result<(), Store
     ensures inside { OnOk result (def.new.root.0 < (P.shape pages.old).pages) }
     ensures creates { P.tells → OnOk result (Creates (P.shape pages.old).pages
         (P.contents pages.old) def.old (P.contents pages.new)) }
-    ensures created { P.tells → (d : Database) → CanCreate (P.shape pages.old).pages
-        (P.contents pages.old) def.old.number def.old.name d
-        → OnOk result (Created (P.shape pages.old).pages (P.contents pages.new) def.new d) }
-    ensures sound { P.tells → (d : Database) → CanCreate (P.shape pages.old).pages
-        (P.contents pages.old) def.old.number def.old.name d → IfErr result IsNoDamage }
+    ensures created { P.tells → (chains : List Chain) (d : Database) → CanCreate (P.shape pages.old).pages
+        (P.contents pages.old) chains def.old.number def.old.name d
+        → OnOk result (Created (P.shape pages.old).pages (P.contents pages.new) chains def.new d) }
+    ensures sound { P.tells → (chains : List Chain) (d : Database) → CanCreate (P.shape pages.old).pages
+        (P.contents pages.old) chains def.old.number def.old.name d → IfErr result IsNoDamage }
     ensures later { IfErr result NamesLater }
 {
     pages.begin();
@@ -115,11 +116,11 @@ pub fn create_table<P: Pages>(pages: &mut P, def: &mut TableDef) -> Result<(), S
     ensures mini { OnOk result ((P.mini pages.new).is_begun ≡ false) }
     ensures def { def.new ≡ with_root def.new.root def.old }
     ensures inside { OnOk result (def.new.root.0 < (P.shape pages.old).pages) }
-    ensures created { P.tells → (d : Database) → CanCreate (P.shape pages.old).pages
-        (P.contents pages.old) def.old.number def.old.name d
-        → OnOk result (Created (P.shape pages.old).pages (P.contents pages.new) def.new d) }
-    ensures sound { P.tells → (d : Database) → CanCreate (P.shape pages.old).pages
-        (P.contents pages.old) def.old.number def.old.name d → IfErr result IsNoDamage }
+    ensures created { P.tells → (chains : List Chain) (d : Database) → CanCreate (P.shape pages.old).pages
+        (P.contents pages.old) chains def.old.number def.old.name d
+        → OnOk result (Created (P.shape pages.old).pages (P.contents pages.new) chains def.new d) }
+    ensures sound { P.tells → (chains : List Chain) (d : Database) → CanCreate (P.shape pages.old).pages
+        (P.contents pages.old) chains def.old.number def.old.name d → IfErr result IsNoDamage }
     ensures later { IfErr result NamesLater }
 {
     match begin_create(pages, def) {

@@ -6,10 +6,9 @@ use Rattle.isp_catalog.specs.declared.table.TableDef.{TableDef}
 use Rattle.isp_changes.specs.Changes.{RowChange, after_change, image_of}
 use Rattle.isp_changes.specs.Stages.{IsOnTheWay, Stage, after_step, asks_room, is_insert, outcome_of}
 use Rattle.isp_changes.proofs.StageProofs.{steps_lead, steps_stand}
-use Rattle.isp_format.specs.Undo.{OldImage}
-use Rattle.isp_image.specs.Courses.{Reaches}
+use Rattle.isp_chained.specs.Courses.{Reaches}
 use Rattle.isp_image.specs.Databases.{Database, FileImage, FileTable, back_of, shown, table_of, tables_of}
-use Rattle.isp_image.proofs.StepLaws.{reaches_on, reaches_self}
+use Rattle.isp_chained.proofs.CourseLaws.{reaches_on, reaches_self}
 use Rattle.isp_page.specs.declared.pages.Pages.{Ghosts}
 use Rattle.isp_plain.specs.Lined.{is_lined_statement}
 use Rattle.isp_plain.specs.Tables.{Table}
@@ -97,13 +96,10 @@ counted (i ∷ since) before =
     grind (arith, nat_tests, less)
 
 module _ {S : Type 0} (g : Ghosts S) (old : S) (defs : List TableDef) (trx : TrxState) (start : Database) (work : Work) (at : IsAt g old defs trx start work) where
-  pub as_many : length trx.images ≡ length (at.stage.since ++ start.images)
-  as_many =
-      sym (ap (λ (l : List OldImage). length l) at.opened.noted)
-      ∙ length_map (λ (i : FileImage). i.image) at.db.images
-      ∙ ap (λ (l : List FileImage). length l) at.stage.images
+  pub as_many : trx.count ≡ length (at.stage.since ++ start.images)
+  as_many = at.opened.noted ∙ ap (λ (l : List FileImage). length l) at.stage.images
 
-  pub some_noted : nat_lt work.base (length trx.images) ≡ has_noted at.noted
+  pub some_noted : nat_lt work.base trx.count ≡ has_noted at.noted
   some_noted = (λ i. nat_lt (at.base i) (as_many i)) ∙ counted at.stage.since start.images ∙ sym (ap has_noted at.stage.noted)
 
 -- ---- one step further
@@ -173,22 +169,22 @@ failed_writable work refusal count d = by (nat_lt work.base count)
 module _ {S : Type 0} (g : Ghosts S) (old new : S) (defs defs_now : List TableDef) (trx : TrxState) (start : Database) (work : Work) (at : IsAt g old defs trx start work)
     (pages : (g.shape new).pages ≡ (g.shape old).pages) (phase : work.phase ≡ Creating) where
   created_by : (name : List ℕ) (schema : Schema) (made : Bool) → work.statement ≡ Create name schema → CreatesOrFull g new defs_now trx name schema at.db made
-      → IsAt g new defs_now trx start (made_by work made (length trx.images))
+      → IsAt g new defs_now trx start (made_by work made trx.count)
   created_by name schema true is did =
-      next_at g old new defs defs_now trx trx start work (made_by work true (length trx.images)) at pages true did.after at.noted did.opened did.reaches (λ no. cc)
+      next_at g old new defs defs_now trx trx start work (made_by work true trx.count) at pages true did.after at.noted did.opened did.reaches (λ no. cc)
       (record { tables = refl; since = at.stage.since; images = did.images ∙ at.stage.images; noted = at.stage.noted })
-      (ap (λ (tables : List Table). stage_of tables at.noted (made_by work true (length trx.images))) did.tables
-      ∙ made_stage (tables_of at.db) at.noted work (length trx.images) (some_noted g old defs trx start work at) name schema phase is)
+      (ap (λ (tables : List Table). stage_of tables at.noted (made_by work true trx.count)) did.tables
+      ∙ made_stage (tables_of at.db) at.noted work trx.count (some_noted g old defs trx start work at) name schema phase is)
       refl refl
       (λ is. no_way is)
   created_by name schema false is full =
-      let same = failed_same work FileFull (length trx.images) in
-      stays_at g old new defs defs_now trx trx start work (made_by work false (length trx.images)) at pages false full.0 (λ _. full.1)
-      (unmade_stage (tables_of at.db) at.noted work (length trx.images) (some_noted g old defs trx start work at) name schema phase is)
+      let same = failed_same work FileFull trx.count in
+      stays_at g old new defs defs_now trx trx start work (made_by work false trx.count) at pages false full.0 (λ _. full.1)
+      (unmade_stage (tables_of at.db) at.noted work trx.count (some_noted g old defs trx start work at) name schema phase is)
       same.statement same.base
-      (failed_writable work FileFull (length trx.images) at.db)
+      (failed_writable work FileFull trx.count at.db)
 
-  pub created_at : (s : Statement) (made : Bool) → work.statement ≡ s → IsCreatable defs s → MakesOrFull g new defs_now trx s at.db made → IsAt g new defs_now trx start (made_by work made (length trx.images))
+  pub created_at : (s : Statement) (made : Bool) → work.statement ≡ s → IsCreatable defs s → MakesOrFull g new defs_now trx s at.db made → IsAt g new defs_now trx start (made_by work made trx.count)
   created_at (Create name schema) made is can did = created_by name schema made is did
   created_at (Insert name rows) made is can did = absurd can
   created_at (Select name columns w) made is can did = absurd can
@@ -203,23 +199,23 @@ module _ {S : Type 0} (g : Ghosts S) (old new : S) (defs defs_now : List TableDe
 
 module _ {S : Type 0} (g : Ghosts S) (old new : S) (defs : List TableDef) (trx : TrxState) (start : Database) (work : Work) (at : IsAt g old defs trx start work)
     (pages : (g.shape new).pages ≡ (g.shape old).pages) (opened : IsOpen g new defs trx at.db) where
-  looked_parts : (looked : Looked) → SameParts work (looked_by work looked (length trx.images))
+  looked_parts : (looked : Looked) → SameParts work (looked_by work looked trx.count)
   looked_parts looked.Over = went_same work
   looked_parts looked.Free = record { statement = refl; place = refl; rows = refl; next = refl; base = refl }
-  looked_parts (looked.Taken refusal) = failed_same work refusal (length trx.images)
+  looked_parts (looked.Taken refusal) = failed_same work refusal trx.count
 
-  looked_writable : (found : Looked) → AreWritable (is_delete work.statement) work.place (rows_left work) at.db → AreWritableNow (looked_by work found (length trx.images)) at.db
+  looked_writable : (found : Looked) → AreWritable (is_delete work.statement) work.place (rows_left work) at.db → AreWritableNow (looked_by work found trx.count) at.db
   looked_writable looked.Over writable = went_writable work at.db writable
   looked_writable looked.Free writable = λ is. writable
-  looked_writable (looked.Taken refusal) writable = failed_writable work refusal (length trx.images) at.db
+  looked_writable (looked.Taken refusal) writable = failed_writable work refusal trx.count at.db
 
   pub looked_at : (t : FileTable) (found : Looked) → work.phase ≡ Looking → slice_get (tables_of at.db) work.place ≡ Some (table_of t) → found ≡ look_by (next_row work) (shown t.rows)
-      → IsAt g new defs trx start (looked_by work found (length trx.images))
+      → IsAt g new defs trx start (looked_by work found trx.count)
   looked_at t found phase there is =
       let same = looked_parts found in
-      stays_at g old new defs defs trx trx start work (looked_by work found (length trx.images)) at pages true opened (λ no. cc)
-      (ap (λ (l : Looked). stage_of (tables_of at.db) at.noted (looked_by work l (length trx.images))) is
-      ∙ looked_stage (tables_of at.db) at.noted work (length trx.images) (some_noted g old defs trx start work at) (table_of t) phase there)
+      stays_at g old new defs defs trx trx start work (looked_by work found trx.count) at pages true opened (λ no. cc)
+      (ap (λ (l : Looked). stage_of (tables_of at.db) at.noted (looked_by work l trx.count)) is
+      ∙ looked_stage (tables_of at.db) at.noted work trx.count (some_noted g old defs trx start work at) (table_of t) phase there)
       same.statement same.base (looked_writable found (at.writable (ap writes phase)))
 
 -- ---- a row
@@ -230,10 +226,10 @@ module _ {S : Type 0} (g : Ghosts S) (old new : S) (defs : List TableDef) (trx t
   over_at over opened =
       let same = went_same work in
       stays_at g old new defs defs trx trx_now start work (went_on work) at pages true opened (λ no. cc)
-      (over_stage (tables_of at.db) at.noted work (length trx.images) (some_noted g old defs trx start work at) phase over)
+      (over_stage (tables_of at.db) at.noted work trx.count (some_noted g old defs trx start work at) phase over)
       same.statement same.base (went_writable work at.db (at.writable (ap writes phase)))
 
-  pub full_at : (b : Behind (rows_named work.statement work.rows) work.next) (count : ℕ) → count ≡ length trx.images → IsOpen g new defs trx_now at.db → IsFull (g.shape new).pages at.db
+  pub full_at : (b : Behind (rows_named work.statement work.rows) work.next) (count : ℕ) → count ≡ trx.count → IsOpen g new defs trx_now at.db → IsFull (g.shape new).pages at.db
       → IsAt g new defs trx_now start (failed_by work FileFull count)
   full_at b count is opened full =
       let same = failed_same work FileFull count in
@@ -254,7 +250,7 @@ module _ {S : Type 0} (g : Ghosts S) (old new : S) (defs : List TableDef) (trx t
         noted = λ i. sym did.back i ∷ at.stage.noted i;
       })
       (ap (λ (tables : List Table). stage_of tables (image_of (tables_of at.db) change ∷ at.noted) (passed work)) did.tables
-      ∙ done_stage (tables_of at.db) at.noted work (length trx.images) (some_noted g old defs trx start work at) b phase)
+      ∙ done_stage (tables_of at.db) at.noted work trx.count (some_noted g old defs trx start work at) b phase)
       same.statement same.base
       (went_writable next did.after (later_writable (is_delete work.statement) work.place (rows_named work.statement work.rows) work.next b at.db did.after at.way.rises (at.writable (ap writes phase)) did.tables))
 
@@ -266,9 +262,9 @@ module _ {S : Type 0} (g : Ghosts S) (old new : S) (defs : List TableDef) (trx t
   none_by [] is none = is
   none_by (image ∷ noted) is none = cc
 
-  pub none_at : nat_lt work.base (length trx.images) ≡ false → IsOpen g new defs trx_now at.db → length trx_now.images ≡ length trx.images → IsAt g new defs trx_now start (failed_by work refusal (length trx_now.images))
+  pub none_at : nat_lt work.base trx.count ≡ false → IsOpen g new defs trx_now at.db → trx_now.count ≡ trx.count → IsAt g new defs trx_now start (failed_by work refusal trx_now.count)
   none_at none opened same_count =
-      let count = length trx_now.images in
+      let count = trx_now.count in
       let same = failed_same work refusal count in
       let few : nat_lt work.base count ≡ false = ap (nat_lt work.base) same_count ∙ none in
       let nothing : at.noted ≡ [] = none_by at.noted refl (sym (some_noted g old defs trx start work at) ∙ none) in
@@ -278,7 +274,7 @@ module _ {S : Type 0} (g : Ghosts S) (old new : S) (defs : List TableDef) (trx t
       same.statement same.base (failed_writable work refusal count at.db)
 
   -- the image that was put back is the newest
-  undone_by : (since : List FileImage) (count : ℕ) → at.noted ≡ map back_of since → at.db.images ≡ since ++ start.images → nat_lt (length start.images) (length (since ++ start.images)) ≡ true → (did : DidUndo g new defs trx_now at.db) → count ≡ length trx_now.images
+  undone_by : (since : List FileImage) (count : ℕ) → at.noted ≡ map back_of since → at.db.images ≡ since ++ start.images → nat_lt (length start.images) (length (since ++ start.images)) ≡ true → (did : DidUndo g new defs trx_now at.db) → count ≡ trx_now.count
       → IsAt g new defs trx_now start (failed_by work refusal count)
   undone_by [] count noted images some did counts =
       let none : nat_lt (length start.images) (length start.images) ≡ false = grind (arith, nat_tests) in
@@ -288,8 +284,7 @@ module _ {S : Type 0} (g : Ghosts S) (old new : S) (defs : List TableDef) (trx t
       let both : image ∷ (since ++ start.images) ≡ did.image ∷ did.after.images = sym images ∙ did.noted in
       let first : image ≡ did.image = same_first image did.image (since ++ start.images) did.after.images both in
       let rest : since ++ start.images ≡ did.after.images = same_rest image did.image (since ++ start.images) did.after.images both in
-      let open_count : length trx_now.images ≡ length (since ++ start.images) =
-      sym (ap (λ (l : List OldImage). length l) did.opened.noted) ∙ length_map (λ (i : FileImage). i.image) did.after.images ∙ sym (ap (λ (l : List FileImage). length l) rest) in
+      let open_count : trx_now.count ≡ length (since ++ start.images) = did.opened.noted ∙ sym (ap (λ (l : List FileImage). length l) rest) in
       let few : nat_lt work.base count ≡ has_noted (map back_of since) = (λ i. nat_lt (at.base i) ((counts ∙ open_count) i)) ∙ counted since start.images in
       let tables : tables_of did.after ≡ after_change (tables_of at.db) (back_of image) = did.tables ∙ sym (ap (λ (i : FileImage). after_change (tables_of at.db) (back_of i)) first) in
       next_at g old new defs defs trx trx_now start work (failed_by work refusal count) at pages true did.after (map back_of since) did.opened did.reaches (λ no. cc)
@@ -300,11 +295,11 @@ module _ {S : Type 0} (g : Ghosts S) (old new : S) (defs : List TableDef) (trx t
       same.statement same.base
       (failed_writable work refusal count did.after)
 
-  pub undone_at : nat_lt work.base (length trx.images) ≡ true → (did : DidUndo g new defs trx_now at.db) → IsAt g new defs trx_now start (failed_by work refusal (length trx_now.images))
+  pub undone_at : nat_lt work.base trx.count ≡ true → (did : DidUndo g new defs trx_now at.db) → IsAt g new defs trx_now start (failed_by work refusal trx_now.count)
   undone_at some did =
-      undone_by at.stage.since (length trx_now.images) at.stage.noted at.stage.images
+      undone_by at.stage.since trx_now.count at.stage.noted at.stage.images
       ((λ i. nat_lt (sym at.base i) (sym (as_many g old defs trx start work at) i)) ∙ some) did refl
 
-  pub undo_at : (b : Bool) → nat_lt work.base (length trx.images) ≡ b → length trx_now.images ≡ fewer work.base (length trx.images) → UndidOrNot g new defs trx_now b at.db → IsAt g new defs trx_now start (failed_by work refusal (length trx_now.images))
+  pub undo_at : (b : Bool) → nat_lt work.base trx.count ≡ b → trx_now.count ≡ fewer work.base trx.count → UndidOrNot g new defs trx_now b at.db → IsAt g new defs trx_now start (failed_by work refusal trx_now.count)
   undo_at true some notes did = undone_at some did
-  undo_at false none notes opened = none_at none opened (notes ∙ ap (λ (b : Bool). if b then length trx.images - 1 else length trx.images) none)
+  undo_at false none notes opened = none_at none opened (notes ∙ ap (λ (b : Bool). if b then trx.count - 1 else trx.count) none)

@@ -57,22 +57,22 @@ module _ {S : Type 0} (g : Ghosts S) (old new : S) (defs : List TableDef) (trx t
       let b = behind_at (rows_named work.statement work.rows) work.next less in
       done_at g old new defs trx trx_now start work at pages phase b (subst (λ (o : Option RowChange). ChangesOrFull g new defs trx_now o at.db changed.Done) (some_is b) did)
 
-  full_now : length trx_now.images ≡ length trx.images + 0 → ChangesOrFull g new defs trx_now (next_change work) at.db changed.Full → IsAt g new defs trx_now start (failed_by work FileFull (length trx_now.images))
+  full_now : trx_now.count ≡ trx.count + 0 → ChangesOrFull g new defs trx_now (next_change work) at.db changed.Full → IsAt g new defs trx_now start (failed_by work FileFull trx_now.count)
   full_now notes did = by (nat_lt work.next (length (rows_named work.statement work.rows))) refl
     where
-      same : length trx_now.images ≡ length trx.images
+      same : trx_now.count ≡ trx.count
       same = omega (arith, notes)
 
-      by : (b : Bool) → nat_lt work.next (length (rows_named work.statement work.rows)) ≡ b → IsAt g new defs trx_now start (failed_by work FileFull (length trx_now.images))
+      by : (b : Bool) → nat_lt work.next (length (rows_named work.statement work.rows)) ≡ b → IsAt g new defs trx_now start (failed_by work FileFull trx_now.count)
       by true less =
           let b = behind (rows_named work.statement work.rows) work.next less in
           let full = subst (λ (o : Option RowChange). ChangesOrFull g new defs trx_now o at.db changed.Full) (some_is b) did in
-          full_at g old new defs trx trx_now start work at pages phase b (length trx_now.images) same full.0 full.1
+          full_at g old new defs trx trx_now start work at pages phase b trx_now.count same full.0 full.1
       by false over =
           let none = subst (λ (o : Option RowChange). ChangesOrFull g new defs trx_now o at.db changed.Full) (none_is over) did in
           absurd (never_over none.1)
 
-  pub changed_at : (done : Changed) → IsChangeOf work done → ChangeNotes trx trx_now done → ChangesOrFull g new defs trx_now (next_change work) at.db done → IsAt g new defs trx_now start (changed_by work done (length trx_now.images))
+  pub changed_at : (done : Changed) → IsChangeOf work done → ChangeNotes trx trx_now done → ChangesOrFull g new defs trx_now (next_change work) at.db done → IsAt g new defs trx_now start (changed_by work done trx_now.count)
   changed_at changed.Over is notes did = over_now is did
   changed_at changed.Done is notes did = done_now is did
   changed_at changed.Full is notes did = full_now notes did

@@ -9,9 +9,9 @@ use Rattle.isp_changes.specs.StageLaws.{IsBegun}
 use Rattle.isp_changes.specs.Stages.{IsOnTheWay, Stage, begun, is_insert, outcome_of}
 use Rattle.isp_changes.proofs.StageProofs.{steps_begin}
 use Rattle.isp_file_laws.proofs.KeptLaws.{kept_is_plain, own_key, shown_are_rows, table_keyed, table_rises}
-use Rattle.isp_format.specs.Undo.{OldImage}
+
 use Rattle.isp_image.specs.Databases.{Database, FileImage, shown, table_of, tables_of}
-use Rattle.isp_image.proofs.StepLaws.{reaches_self}
+use Rattle.isp_chained.proofs.CourseLaws.{reaches_self}
 use Rattle.isp_page.specs.declared.pages.Pages.{Ghosts}
 use Rattle.isp_plain.specs.Conditions.{holds}
 use Rattle.isp_plain.specs.Does.{does, with_set, with_sets}
@@ -136,20 +136,20 @@ keeps_keys schema (Refused refusal) rows fit all = tt
 
 pub read_at : {S : Type 0} (g : Ghosts S) (old new : S) (defs : List TableDef) (trx : TrxState) (start : Database) (work : Work) (at : IsAt g old defs trx start work) (pages : (g.shape new).pages ≡ (g.shape old).pages)
     (opened : IsOpen g new defs trx at.db) (def : TableDef) (place : IsAtPlace work.place def at.db) (f : Found) → work.phase ≡ Reading → work.next ≡ 0 → reads work.statement ≡ true → SetsFitIn def.schema work.statement
-    → f ≡ found_in def.schema work.statement (shown place.table.rows) → IsAt g new defs trx start (took work f (length trx.images))
+    → f ≡ found_in def.schema work.statement (shown place.table.rows) → IsAt g new defs trx start (took work f trx.count)
 read_at g old new defs trx start work at pages opened def place f phase next reads_rows sets is =
     let n = (g.shape new).pages in
     let contents = g.contents new in
     let t = place.table in
-    let count = length trx.images in
+    let count = trx.count in
     let there = plain_at at.db work.place def place in
     let schema : t.def.schema ≡ def.schema = ap (λ (x : TableDef). x.schema) place.is in
-    let own = table_keyed n contents at.db work.place t opened.kept place.is_there in
-    let rises = table_rises n contents at.db work.place t opened.kept place.is_there in
-    let rows = shown_are_rows n contents at.db work.place t opened.kept place.is_there in
+    let own = table_keyed n contents at.db work.place t opened.kept.holds.kept place.is_there in
+    let rises = table_rises n contents at.db work.place t opened.kept.holds.kept place.is_there in
+    let rows = shown_are_rows n contents at.db work.place t opened.kept.holds.kept place.is_there in
     let fit : SetsFitIn t.def.schema work.statement = subst (λ (x : Schema). SetsFitIn x work.statement) (sym schema) sets in
     let found_is : f ≡ found_in t.def.schema work.statement (shown t.rows) = is ∙ ap (λ (x : Schema). found_in x work.statement (shown t.rows)) (sym schema) in
-    let lines = all_by is_lined_row (values_of (shown t.rows)) (lined_at (tables_of at.db) work.place (table_of t) (kept_is_plain n contents at.db opened.kept).lined there) in
+    let lines = all_by is_lined_row (values_of (shown t.rows)) (lined_at (tables_of at.db) work.place (table_of t) (kept_is_plain n contents at.db opened.kept.holds.kept).lined there) in
     stays_at g old new defs defs trx trx start work (took work f count) at pages true opened (λ no. cc)
     (ap (λ (x : Found). stage_of (tables_of at.db) at.noted (took work x count)) found_is
     ∙ read_stage (tables_of at.db) at.noted work count (table_of t) (some_noted g old defs trx start work at) phase next reads_rows there own (keeps_keys t.def.schema work.statement (shown t.rows) fit rows))
@@ -225,16 +225,16 @@ start_writable Rollback base o d lined = λ now. no_way now
 start_writable (Refused refusal) base o d lined = λ now. no_way now
 
 pub start_at_file : {S : Type 0} (g : Ghosts S) (now : S) (defs : List TableDef) (trx : TrxState) (d : Database) (s : Statement) → IsOpen g now defs trx d → is_lined_statement s ≡ true
-    → IsAt g now defs trx d (start_of s (length trx.images) (place_by defs s))
+    → IsAt g now defs trx d (start_of s trx.count (place_by defs s))
 start_at_file g now defs trx d s opened lined =
     let n = (g.shape now).pages in
     let tables = tables_of d in
-    let work = start_of s (length trx.images) (place_by defs s) in
-    let rising : AreRisingTables tables = (kept_is_plain n (g.contents now) d opened.kept).rise in
+    let work = start_of s trx.count (place_by defs s) in
+    let rising : AreRisingTables tables = (kept_is_plain n (g.contents now) d opened.kept.holds.kept).rise in
     let b : IsBegun s tables (begun tables s (pieces_for tables s)) = steps_begin tables s (pieces_for tables s) rising (reads_pieces tables s) in
     let stage : begun tables s (pieces_for tables s) ≡ stage_of tables [] work =
-    sym (ap (λ (o : Option ℕ). stage_of tables [] (start_of s (length trx.images) o)) (place_by_is d defs s opened.defs_are) ∙ begins_stage tables s (length trx.images)) in
-    let is = start_statement s (length trx.images) (place_by defs s) in
+    sym (ap (λ (o : Option ℕ). stage_of tables [] (start_of s trx.count o)) (place_by_is d defs s opened.defs_are) ∙ begins_stage tables s trx.count) in
+    let is = start_statement s trx.count (place_by defs s) in
     let way : IsOnTheWay s tables (stage_of tables [] work) = subst (IsOnTheWay s tables) stage b.on in
     let led : outcome_of s tables (stage_of tables [] work) ≡ does tables s = subst (λ (x : Stage). outcome_of s tables x ≡ does tables s) stage b.leads in
     let leads : Leads n d d s (stage_of tables [] work) = record { full = false; leads = led; cause = λ no. no_way no } in
@@ -242,11 +242,11 @@ start_at_file g now defs trx d s opened lined =
       db = d;
       opened = opened;
       reaches = reaches_self n d;
-      base = start_base s (length trx.images) (place_by defs s) ∙ sym (ap (λ (l : List OldImage). length l) opened.noted) ∙ length_map (λ (i : FileImage). i.image) d.images;
+      base = start_base s trx.count (place_by defs s) ∙ opened.noted;
       noted = [];
       stage = record { tables = refl; since = []; images = refl; noted = refl };
       way = subst (λ (t : Statement). IsOnTheWay t tables (stage_of tables [] work)) (sym is) way;
       leads = subst (λ (t : Statement). Leads n d d t (stage_of tables [] work)) (sym is) leads;
       lined = ap is_lined_statement is ∙ lined;
-      writable = start_writable s (length trx.images) (place_by defs s) d lined;
+      writable = start_writable s trx.count (place_by defs s) d lined;
     }

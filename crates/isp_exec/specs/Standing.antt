@@ -5,7 +5,7 @@ use Rattle.isp_catalog.specs.declared.table.TableDef.{TableDef}
 use Rattle.isp_changes.specs.Changes.{RowChange}
 use Rattle.isp_changes.specs.Rows.{AreRising}
 use Rattle.isp_changes.specs.Stages.{IsOnTheWay, Stage, found_full, is_insert, outcome_of}
-use Rattle.isp_image.specs.Courses.{Reaches}
+use Rattle.isp_chained.specs.Courses.{Reaches}
 use Rattle.isp_image.specs.Databases.{Database, tables_of}
 use Rattle.isp_page.specs.declared.pages.Pages.{Ghosts}
 use Rattle.isp_plain.specs.Does.{does}
@@ -79,7 +79,7 @@ height work noted = height_in work (noted - work.base) work.phase
 
 -- a step of one that isn't ready leaves fewer
 abbrev pub Falls : Work → TrxState → Work → TrxState → Type 0
-Falls work trx work_now trx_now = is_ready work.phase ≡ false → height work_now (length trx_now.images) < height work (length trx.images)
+Falls work trx work_now trx_now = is_ready work.phase ≡ false → height work_now trx_now.count < height work trx.count
 
 -- ---- on a database
 

@@ -33,7 +33,7 @@ fn place_for(tables: &Tables, statement: &Statement) -> Option<usize>
 
 /// A statement that is bound to these tables, of which nothing is done yet. It takes no memory, and reads no page.
 pub fn start(alloc: Global, tables: &Tables, trx: &Trx, statement: Statement) -> Work
-    ensures { result ≡ start_of statement (length trx.now.images)
+    ensures { result ≡ start_of statement trx.now.count
         (place_by tables.now statement) }
 {
     let place = place_for(tables, &statement);

@@ -17,7 +17,8 @@ use Rattle.isp_clustered.specs.Rows.{find}
 use Rattle.isp_clustered.specs.Trees.{rows_of}
 use Rattle.isp_image.specs.Courses.{stood_at}
 use Rattle.isp_image.specs.Databases.{Database, FileTable, committed, seen, shown, tables_of}
-use Rattle.isp_image.specs.Files.{IsKeptFile, KeptFile}
+use Rattle.isp_image.specs.Files.{KeptFile}
+use Rattle.isp_chained.specs.Chained.{ChainedFile, IsKeptFile, no_chains}
 use Rattle.isp_file_laws.specs.Kept.{ArePlain, empty_database}
 use Rattle.isp_file_laws.specs.Seen.{StandsAt, is_live}
 
@@ -56,9 +57,9 @@ abbrev pub RowsAreShort : Type 0
 RowsAreShort = (pages : ℕ) (contents : Contents) (d : Database) (place : ℕ) (t : FileTable) (key : ℤ) (s : Stored) → KeptFile pages contents d → slice_get d.tables place ≡ Some t
     → find key (rows_of t.tree) ≡ Some s → length s.row ≤ most_slot
 
--- contents that begin as an empty file's do are a kept file without tables
+-- contents that begin as an empty file's do are a kept file without tables and without chains
 abbrev pub EmptyIsKept : Type 0
-EmptyIsKept = (pages : ℕ) (contents : Contents) → IsPages pages → ((place : ℕ) → place < first_fresh * page_bytes → contents place ≡ empty_contents place) → KeptFile pages contents empty_database
+EmptyIsKept = (pages : ℕ) (contents : Contents) → IsPages pages → ((place : ℕ) → place < first_fresh * page_bytes → contents place ≡ empty_contents place) → ChainedFile pages contents empty_database no_chains
 
 -- so an image of such contents stands for no table
 abbrev pub EmptyStandsForNone : Type 0

@@ -1,23 +1,20 @@
--- The contents of a file that is kept: all that its pages stand for is readable, and each page in use belongs to one of them.
-use Rattle.std.specs.Prelude.{◌≡◌, ◌≢◌, ℕ, suc, pred, ◌<◌, ◌≤◌, ◌==◌, ◌&&◌, nat_le, ℤ, Bool, true, false, cond, List, [], length, map, replicate, slice_get, Option, Some, None}
+-- The contents of a file that is kept: all that its tables stand for is readable, and each page in use belongs to one of them, to the
+-- free chain or to an undo chain.
+use Rattle.std.specs.Prelude.{◌≡◌, ◌≢◌, ℕ, suc, pred, ◌<◌, ◌≤◌, ◌==◌, ◌&&◌, nat_le, nat_lt, ℤ, Bool, true, false, cond, List, [], length, map, slice_get, Option, Some, None}
 use Rattle.std.specs.List.{AllByRecursion}
 use Rattle.isp_base.specs.Lists.{times}
-use Rattle.isp_disk.specs.Moments.{Image}
-use Rattle.isp_format.specs.Contents.{StandsFor}
-use Rattle.isp_format.specs.Control.{pages_in}
 use Rattle.isp_format.specs.Empty.{first_fresh}
 use Rattle.isp_format.specs.Leaf.{slot_of}
-use Rattle.isp_format.specs.Ranges.{Contents, page_of}
-use Rattle.isp_format.specs.Undo.{IsUndoDirectory, OldImage, absent_kind, marked_kind, undo_slots}
+use Rattle.isp_format.specs.Ranges.{Contents}
+use Rattle.isp_format.specs.Undo.{OldImage, absent_kind, marked_kind, undo_slots}
 use Rattle.isp_plain.specs.declared.value.Row.{Row}
 use Rattle.isp_plain.specs.declared.value.Schema.{Schema}
 use Rattle.isp_plain.specs.Lined.{is_lined_row}
-use Rattle.isp_plain.specs.Tables.{Table}
 use Rattle.isp_row.specs.RowSpelling.{Spells}
 use Rattle.isp_catalog.specs.Catalogue.{HasTables}
 use Rattle.isp_space.specs.Spaces.{Space}
 use Rattle.isp_clustered.specs.Trees.{IsTree, pages_of, rows_of}
-use Rattle.isp_image.specs.Databases.{Database, FileImage, FileRow, FileTable, HasNoMarked, committed, row_key}
+use Rattle.isp_image.specs.Databases.{Database, FileImage, FileRow, FileTable, row_key}
 use Rattle.isp_image.specs.Keyed.{found}
 
 -- ---- who has a page
@@ -48,12 +45,12 @@ pub record OwnsSpace (owner : ℕ → Owner) (s : Space) : Type 0 where
   pub used : (page : ℕ) → first_fresh ≤ page → page < s.fresh → owner page ≢ nobody
   pub never : (page : ℕ) → s.fresh ≤ page → owner page ≡ nobody
 
--- the owner is one of a file of so many tables; undo chains have no page yet
+-- who has a page is the free chain, a table that is there, by its number from 1, or a slot of the directory
 abbrev pub is_known : ℕ → Owner → Bool
 is_known tables nobody = true
 is_known tables of_free = true
 is_known tables (of_table n) = nat_le 1 n && nat_le n tables
-is_known tables (of_slot n) = false
+is_known tables (of_slot n) = nat_lt n undo_slots
 
 -- ---- tables
 
@@ -92,32 +89,13 @@ pub record IsFileImage (tables : List FileTable) (i : FileImage) : Type 0 where
 
 -- ---- the file
 
--- a directory without undo chains
-unfoldable pub no_slots : List (ℕ × ℕ)
-no_slots = replicate undo_slots (0, 0)
-
--- The contents of a file of so many pages are this database. Old rows stand in no page of it yet.
+-- The contents of a file of so many pages are this database, each page in use has one owner, and the old rows are of its tables.
+-- What stands on the pages of undo chains isn't said here.
 pub record KeptFile (pages : ℕ) (contents : Contents) (db : Database) : Type 0 where
   pub catalogue : HasTables pages contents db.space (map (λ (t : FileTable). t.def) db.tables)
-  pub directory : IsUndoDirectory (page_of contents 1) no_slots
   pub each : (place : ℕ) (t : FileTable) → slice_get db.tables place ≡ Some t → IsFileTable pages contents (suc place) t
   pub noted : AllByRecursion (IsFileImage db.tables) db.images
-  -- each page in use has one owner
   pub owner : ℕ → Owner
   pub shared : OwnsSpace owner db.space
   pub trees : (place : ℕ) (t : FileTable) → slice_get db.tables place ≡ Some t → Owns owner (of_table (suc place)) (pages_of t.tree)
   pub known : (page : ℕ) → is_known (length db.tables) (owner page) ≡ true
-
--- the contents stand for these tables, where a transaction noted these old rows, the newest first
-pub record Stands (pages : ℕ) (contents : Contents) (images : List OldImage) (tables : List Table) : Type 0 where
-  pub db : Database
-  pub kept : KeptFile pages contents db
-  pub noted : map (λ (i : FileImage). i.image) db.images ≡ images
-  pub stand : committed db ≡ tables
-
--- the image is that of a kept file, which stands for these tables; no transaction is unfinished, and no row is marked
-pub record IsKeptFile (image : Image) (tables : List Table) : Type 0 where
-  pub contents : Contents
-  pub stands_for : StandsFor image contents
-  pub stands : Stands (pages_in image) contents [] tables
-  pub tidy : HasNoMarked stands.db

@@ -8,7 +8,7 @@ use Rattle.std.proofs.lemmas.Bool.Decides.{nat_tests}
 use Rattle.isp_disk.specs.Moments.{Image}
 use Rattle.isp_disk.specs.Outside.{Rose}
 use Rattle.isp_format.specs.Control.{IsFanout, IsPages, made_gate}
-use Rattle.isp_image.specs.Files.{IsKeptFile}
+use Rattle.isp_chained.specs.Chained.{IsKeptFile}
 use Rattle.isp_plain.specs.Tables.{Table}
 use Rattle.isp_script.specs.BadLines.{IsBadLine}
 use Rattle.isp_words.specs.Commands.{command_of, fanout_option, frames_option, is_count, make_of, make_word, number_in, pages_option, run_of, run_word}

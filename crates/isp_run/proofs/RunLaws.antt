@@ -1,6 +1,5 @@
 -- What a run has printed and leaves of the file, from what its parts say.
 use Rattle.std.proofs.Common.{◌≡◌, ◌∙◌, inl, inr, ℕ, ◌≤◌, ◌+◌, ◌-◌, ◌&&◌, ap, sym, refl, subst, Bool, true, false, not, List, [], ◌∷◌, ◌++◌, length, get_or, length-append, append_assoc, All, arith}
-use Rattle.std.specs.Prelude.{map}
 use Rattle.isp_disk.specs.Moments.{Image}
 use Rattle.isp_disk.specs.declared.world.World.{Ghosts}
 use Rattle.isp_writes.specs.Causes.{FillsUp}
@@ -9,8 +8,9 @@ use Rattle.isp_format.proofs.Standing.{stands_once}
 use Rattle.isp_format.specs.Contents.{StandsFor}
 use Rattle.isp_format.specs.Control.{fanout_in, pages_in}
 use Rattle.isp_format.specs.Ranges.{Contents}
-use Rattle.isp_image.specs.Databases.{Database, FileImage, committed, put_back, tables_of}
-use Rattle.isp_image.specs.Files.{IsKeptFile, KeptFile}
+use Rattle.isp_image.specs.Databases.{Database, committed, put_back, tables_of}
+use Rattle.isp_chained.specs.Chained.{ChainedFile, IsKeptFile, no_chains}
+use Rattle.isp_chained.proofs.PlainLaws.{chained_plain}
 use Rattle.isp_page.specs.State.{FileShape}
 use Rattle.isp_plain.specs.Tables.{Table}
 use Rattle.isp_plan.proofs.FaithfulLaws.{whole_is_faithful}
@@ -30,10 +30,6 @@ use Rattle.isp_run.specs.Working.{HasPlayed}
 
 -- ---- files
 
-no_images : (images : List FileImage) → map (λ (i : FileImage). i.image) images ≡ [] → images ≡ []
-no_images [] is = refl
-no_images (i ∷ images) is = cc
-
 -- without old rows the committed tables are those of now
 pub committed_none : (d : Database) → d.images ≡ [] → committed d ≡ tables_of d
 committed_none d none = ap (λ images. put_back images (tables_of d)) none
@@ -47,11 +43,11 @@ pub record KeptAs (image : Image) (contents : Contents) (first : List Table) : T
 pub kept_as : (image : Image) (contents : Contents) (first : List Table) → StandsFor image contents → IsKeptFile image first → KeptAs image contents first
 kept_as image contents first stands is =
     let d = is.stands.db in
-    let none = no_images d.images is.stands.noted in
+    let none = (chained_plain (pages_in image) is.contents d is.stands.kept).none in
     let same : is.contents ≡ contents = stands_once image is.contents contents is.stands_for stands in
     record {
       d = d;
-      rests = record { kept = subst (λ c. KeptFile (pages_in image) c d) same is.stands.kept; none = none; tidy = is.tidy };
+      rests = record { kept = subst (λ c. ChainedFile (pages_in image) c d no_chains) same is.stands.kept; tidy = is.tidy };
       tables = sym (committed_none d none) ∙ is.stands.stand;
     }
 
@@ -62,15 +58,14 @@ kept_at_rest image contents pages d after count stands rests tables = record {
   stands_for = stands;
   stands = record {
     db = d;
-    kept = subst (λ n. KeptFile n contents d) (sym count) rests.kept;
-    noted = ap (map (λ (i : FileImage). i.image)) rests.none;
-    stand = committed_none d rests.none ∙ tables;
+    kept = subst (λ n. ChainedFile n contents d no_chains) (sym count) rests.kept;
+    stand = committed_none d (chained_plain pages contents d rests.kept).none ∙ tables;
   };
   tidy = rests.tidy;
 }
 
 database_in : (image : Image) (contents : Contents) (pages : ℕ) (d : Database) → pages_in image ≡ pages → StandsFor image contents → IsAtRest pages contents d → IsDatabaseIn image d
-database_in image contents pages d count stands rests = record { contents = contents; stands = stands; kept = subst (λ n. KeptFile n contents d) (sym count) rests.kept }
+database_in image contents pages d count stands rests = record { contents = contents; stands = stands; kept = subst (λ n. ChainedFile n contents d no_chains) (sym count) rests.kept }
 
 -- ---- answers
 
@@ -101,7 +96,7 @@ module _ {W : Type 0} (g : Ghosts W) (script : ScriptOf) (alone : IsAlone script
       from : (d : Database) → IsAtRest shape.pages contents d → HasPlayed g script shape d old new → Ran script (tables_of d) (g.printed old) (g.printed new) (g.image old) (g.image new)
       from d rests has =
           let played = has.played in
-          let answers = alone_answers sql played.full (tables_of d) script whole_is_faithful (kept_is_plain shape.pages contents d rests.kept).lined small.0 small.1 in
+          let answers = alone_answers sql played.full (tables_of d) script whole_is_faithful (kept_is_plain shape.pages contents d rests.kept.holds.kept).lined small.0 small.1 in
           record {
             answers = run_answers sql played.full (tables_of d) script;
             printed = played.printed;
@@ -133,7 +128,7 @@ module _ {W : Type 0} (g : Ghosts W) (script : ScriptOf) (alone : IsAlone script
     where
       from : (d : Database) → IsAtRest shape.pages contents d → PlayedPart shape.pages script d (g.printed old) (g.printed new) → Front script (tables_of d) (g.image old) (g.printed old) (g.printed new)
       from d rests has =
-          let answers = alone_answers sql has.full (tables_of d) script whole_is_faithful (kept_is_plain shape.pages contents d rests.kept).lined small.0 small.1 in
+          let answers = alone_answers sql has.full (tables_of d) script whole_is_faithful (kept_is_plain shape.pages contents d rests.kept.holds.kept).lined small.0 small.1 in
           record {
             answers = run_answers sql has.full (tables_of d) script;
             alone = answers.alone;

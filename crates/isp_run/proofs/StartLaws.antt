@@ -5,7 +5,7 @@ use Rattle.isp_disk.specs.declared.world.World.{Ghosts}
 use Rattle.isp_format.specs.Contents.{StandsFor}
 use Rattle.isp_format.specs.Ranges.{Contents}
 use Rattle.isp_image.specs.Databases.{Database}
-use Rattle.isp_image.specs.Files.{IsKeptFile}
+use Rattle.isp_chained.specs.Chained.{IsKeptFile}
 use Rattle.isp_opening.specs.Opening.{BreaksFirst, KeepsWorld}
 use Rattle.isp_page.specs.declared.fault.Fault.{Fault}
 use Rattle.isp_page.specs.declared.fault.Fault.TheVariants.{Memory, Store}

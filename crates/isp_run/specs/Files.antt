@@ -8,7 +8,7 @@ use Rattle.isp_format.specs.Control.{fanout_in, made_gate, pages_in}
 use Rattle.isp_format.specs.Doublewrite.{area, doublewrite_gate}
 use Rattle.isp_format.specs.Ranges.{Contents}
 use Rattle.isp_format.specs.Rules.{log_rule}
-use Rattle.isp_image.specs.Files.{IsKeptFile}
+use Rattle.isp_chained.specs.Chained.{IsKeptFile}
 use Rattle.isp_opening.specs.Opening.{BreaksFirst}
 use Rattle.isp_page.specs.State.{FileShape}
 use Rattle.isp_page.specs.declared.fault.Fault.{Fault}

@@ -9,7 +9,7 @@ use Rattle.isp_format.specs.Contents.{StandsFor}
 use Rattle.isp_format.specs.Control.{fanout_in, pages_in}
 use Rattle.isp_format.specs.Ranges.{Contents}
 use Rattle.isp_image.specs.Databases.{Database}
-use Rattle.isp_image.specs.Files.{IsKeptFile, KeptFile}
+use Rattle.isp_chained.specs.Chained.{ChainedFile, IsKeptFile, no_chains}
 use Rattle.isp_plain.specs.Tables.{Table}
 use Rattle.isp_script.specs.Grammar.{IsScript}
 use Rattle.isp_serial.specs.Alone.{IsAnswerAlone}
@@ -24,11 +24,11 @@ use Rattle.isp_run.specs.Files.{IsTidy}
 use Rattle.isp_run.specs.declared.status.Status.{Status}
 use Rattle.isp_run.specs.declared.status.Status.TheVariants.{Done, Damaged, PrintFault, OutOfMemory}
 
--- the image stands for contents that are this database
+-- the image stands for contents that are this database, without a chain
 pub record IsDatabaseIn (image : Image) (d : Database) : Type 0 where
   pub contents : Contents
   pub stands : StandsFor image contents
-  pub kept : KeptFile (pages_in image) contents d
+  pub kept : ChainedFile (pages_in image) contents d no_chains
 
 -- a full file's answer: on the way from the first file's database to the last one's, one has no room
 pub record IsFullBetween (file file_now : Image) : Type 0 where

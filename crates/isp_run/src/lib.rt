@@ -9,7 +9,7 @@
 ghost use Rattle.std.specs.Prelude.{◌≡◌, ◌≢◌, ◌↔◌, ℕ, List, None, [], map, string_bytes};
 ghost use Rattle.isp_disk.specs.Outside.{Rose};
 ghost use Rattle.isp_format.specs.Control.{made_gate};
-ghost use Rattle.isp_image.specs.Files.{IsKeptFile};
+ghost use Rattle.isp_chained.specs.Chained.{IsKeptFile};
 ghost use Rattle.isp_opening.specs.Opening.{BreaksFirst};
 ghost use Rattle.isp_plain.specs.Tables.{Table};
 ghost use Rattle.isp_run.specs.Asking.{OnMake, OnRun};

@@ -2,7 +2,7 @@
 
 ghost use Rattle.std.specs.Prelude.{◌≡◌, [], IfOk};
 ghost use Rattle.isp_run.specs.Causes.{HasStops, Takes};
-ghost use Rattle.isp_run.specs.Reading.{IsFound, IsGood};
+ghost use Rattle.isp_run.specs.Reading.{HaveSlots, IsFound, IsGood};
 
 use crate::input::read_bytes;
 use crate::stop::Stop;
@@ -25,6 +25,7 @@ pub fn find_script<S: Source>(alloc: Global, source: &mut S) -> Result<Found, St
     ensures end { S.tells → IfOk result (λ found. IsGood found → S.left source.new ≡ []) }
     ensures taken { S.tells → Takes 16777217 (S.left source.old) (S.left source.new) }
     ensures cause { HasStops (S.faults source.old) (S.faults source.new) result }
+    ensures slots { IfOk result HaveSlots }
 {
     let bytes = read_bytes(alloc, source)?;
     let found = found_in(alloc, bytes.as_slice())?;
@@ -32,7 +33,8 @@ pub fn find_script<S: Source>(alloc: Global, source: &mut S) -> Result<Found, St
 }
 
 fn found_in(alloc: Global, bytes: &[u8]) -> Result<Found, AllocError>
-    ensures { IfOk result (λ found. IsFound bytes.now found) }
+    ensures found { IfOk result (λ found. IsFound bytes.now found) }
+    ensures slots { IfOk result HaveSlots }
 {
     match read_script(alloc, bytes) {
         Ok(script) => Ok(Found::Script(script)),

@@ -1,6 +1,6 @@
 //! A script run on a file.
 
-ghost use Rattle.std.specs.Prelude.{◌≡◌, ◌≤◌, ℕ, false, true, [], Some};
+ghost use Rattle.std.specs.Prelude.{◌≡◌, ◌≤◌, ℕ, false, true, [], All, Some};
 ghost use Rattle.isp_opening.specs.Opening.{BreaksFirst};
 ghost use Rattle.isp_run.specs.Causes.{CountsAt, Takes};
 ghost use Rattle.isp_run.specs.Files.{ByGate, IsBefore, IsDamage, IsRunStatus, IsScriptStatus, IsTidy, NeverWorks, TakesNothing, status_of};
@@ -8,6 +8,7 @@ ghost use Rattle.isp_run.specs.Ran.{FrontOf, IsRead, RanOf};
 ghost use Rattle.isp_run.specs.Reading.{HasScript};
 ghost use Rattle.isp_run.specs.Working.{HasWorked, RunsOn};
 ghost use Rattle.isp_script.specs.BadLines.{IsBadLine};
+ghost use Rattle.isp_sessions.specs.Plays.{HasSlot};
 ghost use Rattle.isp_store.specs.State.{contents, mini, shape};
 ghost use Rattle.isp_words.specs.declared.Command.TheVariants as commands;
 
@@ -100,6 +101,7 @@ fn run_script<S: Source, W: World>(
 
 // Opens the file, runs the script on it, and closes it.
 fn run_on<W: World>(alloc: Global, script: &Script, world: W, frames: u32) -> (Status, W)
+    requires slots { All HasSlot script.now.sessions }
     requires least { 64 ≤ frames }
     requires most { frames ≤ 4096 }
     ensures runs { RunsOn W.World script.now world result.0 result.1 }
@@ -124,6 +126,7 @@ fn status_of(fault: Fault) -> Status
 
 // Runs the script on an open file, and puts all pages in their places.
 fn work<W: World>(alloc: Global, script: &Script, store: Store<W>) -> (Status, W)
+    requires slots { All HasSlot script.now.sessions }
     requires usable { store.is_usable ≡ true }
     requires none { (mini W.World store).is_begun ≡ false }
     ensures worked { HasWorked W.World script.now store.stable.world (contents W.World store)
@@ -135,6 +138,7 @@ fn work<W: World>(alloc: Global, script: &Script, store: Store<W>) -> (Status, W
 }
 
 fn work_on<W: World>(alloc: Global, script: &Script, store: &mut Store<W>) -> Status
+    requires slots { All HasSlot script.now.sessions }
     requires usable { store.old.is_usable ≡ true }
     requires none { (mini W.World store.old).is_begun ≡ false }
     ensures worked { HasWorked W.World script.now store.old.stable.world (contents W.World store.old)

@@ -6,9 +6,10 @@ use Rattle.std.proofs.lemmas.Bool.{false≢true}
 use Rattle.std.proofs.lemmas.Bool.Decides.{nat_tests}
 use Rattle.std.proofs.lemmas.List.Concat.{flat_map-append}
 use Rattle.isp_connection.specs.Connections.{ConnectionState, Holds}
+use Rattle.isp_connection.proofs.EndLaws.{as_plain}
 use Rattle.isp_disk.specs.Outside.{PrintsPart}
 use Rattle.isp_writes.specs.Causes.{FillsUp}
-use Rattle.isp_image.specs.Databases.{Database, FileImage, tables_of}
+use Rattle.isp_image.specs.Databases.{Database, tables_of}
 use Rattle.isp_page.specs.declared.pages.Pages.{Ghosts}
 use Rattle.isp_plain.specs.Texts.{end_text}
 use Rattle.isp_plan.proofs.FaithfulLaws.{whole_is_faithful}
@@ -25,16 +26,12 @@ use Rattle.isp_sessions.proofs.PrintLaws.{none_printed, part_behind, part_longer
 use Rattle.isp_sessions.proofs.RunLaws.{between_behind, fills_earlier, fills_later, fills_reach, reach_earlier, reaches_none, reaches_on}
 use Rattle.isp_sessions.proofs.TextLaws.{setup_settled}
 
-no_images : (images : List FileImage) → map (λ (i : FileImage). i.image) images ≡ [] → images ≡ []
-no_images [] is = refl
-no_images (i ∷ images) is = cc
-
 module _ {S : Type 0} (g : Ghosts S) where
   -- where no transaction is open the database is at rest
   pub at_rest : (now : S) (c : ConnectionState) (state : State) (d : Database) → Runs g now c state d → state.inside ≡ false → IsAtRest (g.shape now).pages (g.contents now) d
   at_rest now c state d runs outside =
       let closed : c.inside ≡ false = runs.holds.inside ∙ outside in
-      record { kept = runs.holds.opened.kept; none = no_images d.images (runs.holds.opened.noted ∙ runs.holds.outside closed); tidy = runs.tidy closed }
+      record { kept = as_plain c.trx.session (g.shape now).pages (g.contents now) d runs.holds.opened.chain (runs.holds.outside closed) runs.holds.opened.kept; tidy = runs.tidy closed }
 
   -- a connection that was opened on a database at rest
   pub opened : (now : S) (c : ConnectionState) (d : Database) (pages : ℕ) (old : S) → IsAtRest pages (g.contents old) d → Holds g now c (settled (tables_of d)) d → Runs g now c (settled (tables_of d)) d

@@ -6,9 +6,10 @@ use Rattle.isp_connection.specs.Connections.{ConnectionState, Holds}
 use Rattle.isp_disk.specs.Outside.{PrintsPart}
 use Rattle.isp_writes.specs.Causes.{FillsUp}
 use Rattle.isp_format.specs.Ranges.{Contents}
-use Rattle.isp_image.specs.Courses.{Reaches}
+use Rattle.isp_chained.specs.Courses.{Reaches}
 use Rattle.isp_image.specs.Databases.{Database}
-use Rattle.isp_image.specs.Files.{KeptFile}
+use Rattle.isp_chained.specs.Chained.{alone}
+use Rattle.isp_connection.proofs.EndLaws.{kept_same}
 use Rattle.isp_page.specs.State.{FileShape}
 use Rattle.isp_page.specs.declared.fault.Fault.{Fault}
 use Rattle.isp_page.specs.declared.pages.Pages.{Ghosts}
@@ -27,7 +28,9 @@ module _ {S : Type 0} (g : Ghosts S) where
   pub still_holds : (old new : S) (c : ConnectionState) (state : State) (d : Database) → g.shape new ≡ g.shape old → g.contents new ≡ g.contents old → Holds g old c state d → Holds g new c state d
   still_holds old new c state d shape same holds = record {
     opened = record {
-      kept = subst (λ (n : FileShape). KeptFile n.pages (g.contents new) d) (sym shape) (subst (λ (at : Contents). KeptFile (g.shape old).pages at d) (sym same) holds.opened.kept);
+      chain = holds.opened.chain;
+      kept = kept_same (g.shape old).pages (g.shape new).pages (g.contents old) (g.contents new) d (alone c.trx.session holds.opened.chain) (ap (λ (n : FileShape). n.pages) shape) same holds.opened.kept;
+      slot = holds.opened.slot;
       defs_are = holds.opened.defs_are;
       noted = holds.opened.noted;
       written = holds.opened.written;

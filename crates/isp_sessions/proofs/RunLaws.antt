@@ -6,7 +6,7 @@ use Rattle.isp_connection.specs.Answering.{meant, state_or_full}
 use Rattle.isp_connection.specs.Connections.{ConnectionState}
 use Rattle.isp_disk.specs.Outside.{PrintsPart}
 use Rattle.isp_writes.specs.Causes.{FillsUp}
-use Rattle.isp_image.specs.Courses.{Course, Reaches}
+use Rattle.isp_chained.specs.Courses.{Course, Reaches}
 use Rattle.isp_image.specs.Databases.{Database}
 use Rattle.isp_page.specs.declared.pages.Pages.{Ghosts}
 use Rattle.isp_plain.specs.Texts.{full_text}

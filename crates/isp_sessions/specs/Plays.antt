@@ -4,10 +4,11 @@ use Rattle.std.specs.List.{flat_map}
 use Rattle.isp_disk.specs.Outside.{PrintsPart, Rose}
 use Rattle.isp_writes.specs.Causes.{FillsUp, IsFull}
 use Rattle.isp_format.specs.Ranges.{Contents}
-use Rattle.isp_image.specs.Courses.{Reaches}
+use Rattle.isp_chained.specs.Courses.{Reaches}
 use Rattle.isp_image.specs.Databases.{Database, tables_of}
 use Rattle.isp_image.specs.Databases.{HasNoMarked}
-use Rattle.isp_image.specs.Files.{KeptFile}
+use Rattle.isp_chained.specs.Chained.{ChainedFile, no_chains}
+use Rattle.isp_format.specs.Undo.{undo_slots}
 use Rattle.isp_page.specs.declared.fault.Fault.{Fault}
 use Rattle.isp_page.specs.declared.fault.Fault.TheVariants.{Memory, Store}
 use Rattle.isp_page.specs.declared.fault.StoreFault.TheVariants.{Damaged, Disk, Print}
@@ -15,12 +16,12 @@ use Rattle.isp_page.specs.declared.pages.Pages.{Ghosts}
 use Rattle.isp_serial.specs.Alone.{AreSmall, Full, run_after, run_answers}
 use Rattle.isp_serial.specs.Spelling.{line_of}
 use Rattle.isp_serial.specs.declared.script.Script.{Script}
+use Rattle.isp_serial.specs.declared.script.Session.{Session}
 use Rattle.isp_sessions.specs.Sql.{sql}
 
--- No transaction is open: no old row is noted, and no row is marked.
+-- No transaction is open: no slot has a chain, and no row is marked.
 pub record IsAtRest (pages : ℕ) (contents : Contents) (d : Database) : Type 0 where
-  pub kept : KeptFile pages contents d
-  pub none : d.images ≡ []
+  pub kept : ChainedFile pages contents d no_chains
   pub tidy : HasNoMarked d
 
 -- a database that is reached from the first has no room
@@ -28,6 +29,10 @@ pub record ReachesFull (pages : ℕ) (first : Database) : Type 0 where
   pub at : Database
   pub before : Reaches pages first at
   pub full : IsFull pages at
+
+-- the session's number is that of an undo slot
+abbrev pub HasSlot : Session → Type 0
+HasSlot session = session.number < undo_slots
 
 -- the numbers of the script's answers fit into 64 bits
 abbrev pub IsSmall : Script → Type 0

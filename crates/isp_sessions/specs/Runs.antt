@@ -5,7 +5,7 @@ use Rattle.isp_connection.specs.Answering.{reply_or_full, state_or_full}
 use Rattle.isp_connection.specs.Connections.{ConnectionState, Holds}
 use Rattle.isp_disk.specs.Outside.{PrintsPart}
 use Rattle.isp_writes.specs.Causes.{FillsUp}
-use Rattle.isp_image.specs.Courses.{Reaches}
+use Rattle.isp_chained.specs.Courses.{Reaches}
 use Rattle.isp_image.specs.Databases.{Database, HasNoMarked, tables_of}
 use Rattle.isp_page.specs.declared.pages.Pages.{Ghosts}
 use Rattle.isp_plain.specs.declared.statement.Reply.{Reply}

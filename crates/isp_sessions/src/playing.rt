@@ -1,12 +1,12 @@
 //! The setup and then the session of a script, from the tables that the file has.
 
-ghost use Rattle.std.specs.Prelude.{◌≡◌, ◌+◌, ◌<◌, ◌^◌, false, true, length, IfErr, OnErr, OnOk};
+ghost use Rattle.std.specs.Prelude.{◌≡◌, ◌+◌, ◌<◌, ◌^◌, false, true, length, All, IfErr, OnErr, OnOk};
 ghost use Rattle.isp_tables.specs.Calls.{Serves};
 ghost use Rattle.isp_image.specs.Databases.{Database, tables_of};
 ghost use Rattle.isp_image.specs.Faults.{NamesLaterOrLacks};
 ghost use Rattle.isp_page.specs.Steps.{IsNoDamageOrLacks};
 ghost use Rattle.isp_serial.specs.Alone.{AreSmall, Full, IsAlone, State, settled};
-ghost use Rattle.isp_sessions.specs.Plays.{IsAtRest, IsSmall, Played, PlayedPart, StaysPlaying};
+ghost use Rattle.isp_sessions.specs.Plays.{HasSlot, IsAtRest, IsSmall, Played, PlayedPart, StaysPlaying};
 ghost use Rattle.isp_sessions.specs.Runs.{HasSession, HasSessions, HasSetup, Runs, SessionPart, SessionsPart, SetupPart};
 
 use crate::answering::{answer_texts, end_session};
@@ -101,6 +101,7 @@ fn answer_all<P: Pages>(
 }
 
 fn answer_session<P: Pages>(alloc: Global, pages: &mut P, session: &Session) -> Result<(), Fault>
+    requires slot { HasSlot session.now }
     requires usable { P.usable pages.old ≡ true }
     requires none { (P.mini pages.old).is_begun ≡ false }
     ensures stays { StaysPlaying P.Pages pages.old pages.new result }
@@ -127,6 +128,7 @@ fn answer_session<P: Pages>(alloc: Global, pages: &mut P, session: &Session) -> 
 
 // Answers the one session, where there is one. A script has no more of them yet.
 fn answer_sessions<P: Pages>(alloc: Global, script: &Script, pages: &mut P) -> Result<(), Fault>
+    requires slots { All HasSlot script.now.sessions }
     requires usable { P.usable pages.old ≡ true }
     requires none { (P.mini pages.old).is_begun ≡ false }
     ensures stays { StaysPlaying P.Pages pages.old pages.new result }
@@ -151,6 +153,7 @@ fn answer_sessions<P: Pages>(alloc: Global, script: &Script, pages: &mut P) -> R
 
 // Answers the setup and then the session.
 fn answer_script<P: Pages>(alloc: Global, script: &Script, pages: &mut P) -> Result<(), Fault>
+    requires slots { All HasSlot script.now.sessions }
     requires usable { P.usable pages.old ≡ true }
     requires none { (P.mini pages.old).is_begun ≡ false }
     ensures stays { StaysPlaying P.Pages pages.old pages.new result }
@@ -173,13 +176,15 @@ fn answer_script<P: Pages>(alloc: Global, script: &Script, pages: &mut P) -> Res
     }
 }
 
-/// Answers the setup and then the session of the script, from the tables that the file has, and prints each answer's line.
+/// Answers the setup and then the session of the script, whose number is that of an undo slot, from the tables that the file has,
+/// and prints each answer's line.
 /// What was committed stays in the pages; a transaction that is open at a session's end is taken back.
 ///
 /// # Errors
 ///
 /// Memory; or Disk, Print; or Damaged, on pages that are no kept file.
 pub fn play<P: Pages>(alloc: Global, script: &Script, pages: &mut P) -> Result<(), Fault>
+    requires slots { All HasSlot script.now.sessions }
     requires usable { P.usable pages.old ≡ true }
     requires none { (P.mini pages.old).is_begun ≡ false }
     ensures stays { StaysPlaying P.Pages pages.old pages.new result }

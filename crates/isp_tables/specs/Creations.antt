@@ -5,7 +5,7 @@ use Rattle.isp_catalog.specs.Limits.{AreColumns, IsName}
 use Rattle.isp_catalog.specs.declared.table.TableDef.{TableDef}
 use Rattle.isp_changes.specs.Stages.{with_empty}
 use Rattle.isp_format.specs.Definition.{most_tables}
-use Rattle.isp_image.specs.Courses.{Reaches}
+use Rattle.isp_chained.specs.Courses.{Reaches}
 use Rattle.isp_image.specs.Databases.{Database, tables_of}
 use Rattle.isp_page.specs.declared.pages.Pages.{Ghosts}
 use Rattle.isp_plain.specs.declared.statement.Statement.{Statement}

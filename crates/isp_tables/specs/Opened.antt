@@ -1,26 +1,29 @@
 -- A file that is open: its database, the definitions of its tables, and what a transaction noted and wrote.
-use Rattle.std.specs.Prelude.{◌≡◌, ℕ, Bool, true, false, List, map, slice_get, Some}
+use Rattle.std.specs.Prelude.{◌≡◌, ◌<◌, ℕ, Bool, true, false, List, length, map, slice_get, Some}
 use Rattle.isp_catalog.specs.declared.table.TableDef.{TableDef}
 use Rattle.isp_changes.specs.Changes.{row_in}
 use Rattle.isp_image.specs.Databases.{Database, FileTable, tables_of}
-use Rattle.isp_image.specs.Files.{KeptFile}
+use Rattle.isp_format.specs.Undo.{undo_slots}
+use Rattle.isp_undo.specs.Chains.{Chain}
+use Rattle.isp_chained.specs.Chained.{ChainedFile, alone}
 use Rattle.isp_page.specs.declared.pages.Pages.{Ghosts}
 use Rattle.isp_plain.specs.Lined.{is_lined_row}
 use Rattle.isp_plain.specs.Values.{key_of}
 use Rattle.isp_plain.specs.declared.value.Row.{Row}
 use Rattle.isp_trx.specs.Transactions.{TrxState}
-use Rattle.isp_trx.specs.Writes.{images_of}
 use Rattle.isp_trx_laws.specs.Written.{AreWritten}
 
 abbrev pub defs_in : Database → List TableDef
 defs_in d = map (λ (t : FileTable). t.def) d.tables
 
--- The store has the database, with these definitions; its old rows are those that the transaction noted, and only at keys that it
--- wrote is a row marked.
+-- The store has the database, with these definitions. The slot of the transaction's session alone has a chain, with as many old rows as
+-- the transaction counts, and only at keys that it wrote is a row marked.
 pub record IsOpen {S : Type 0} (g : Ghosts S) (now : S) (defs : List TableDef) (trx : TrxState) (d : Database) : Type 0 where
-  pub kept : KeptFile (g.shape now).pages (g.contents now) d
+  pub chain : Chain
+  pub kept : ChainedFile (g.shape now).pages (g.contents now) d (alone trx.session chain)
+  pub slot : trx.session < undo_slots
   pub defs_are : defs_in d ≡ defs
-  pub noted : images_of d ≡ trx.images
+  pub noted : trx.count ≡ length d.images
   pub written : AreWritten trx.keys d
 
 -- the table at that place, from 0, is defined so

@@ -4,7 +4,7 @@ use Rattle.std.specs.List.{AllByRecursion}
 use Rattle.isp_format.specs.Ranges.{Contents}
 use Rattle.isp_image.specs.Databases.{Database}
 use Rattle.isp_trx.specs.Writes.{IsFree, Sweeps}
-use Rattle.isp_trx.specs.declared.noted.RowKey.{RowKey}
+use Rattle.isp_trx.specs.declared.keys.RowKey.{RowKey}
 
 -- the key is free wherever all of these are
 abbrev pub IsOneOf : RowKey → List RowKey → Type 0

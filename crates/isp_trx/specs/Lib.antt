@@ -1,6 +1,6 @@
 pub mod Laws
-pub mod Noted
 pub mod Order
 pub mod Roots
+pub mod Trxs
 pub mod Transactions
 pub mod Writes

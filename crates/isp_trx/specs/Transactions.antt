@@ -1,13 +1,14 @@
--- A transaction: its session, what stood at each key before it was changed, and the keys that it wrote.
-use Rattle.std.specs.Prelude.{◌≡◌, ℕ, ◌+◌, Bool, true, false, List, [], ◌∷◌, ◌++◌, Option, Some, None, if◌then◌else◌}
+-- A transaction: its session, how many of its changes can be taken back, and the keys that it wrote.
+use Rattle.std.specs.Prelude.{◌≡◌, ℕ, ◌+◌, ◌-◌, List, [], ◌∷◌, ◌++◌, Option, Some, None, if◌then◌else◌}
 use Rattle.isp_clustered.specs.declared.kept.Kept.{Kept}
 use Rattle.isp_format.specs.Undo.{OldImage, absent_kind, marked_kind, unmarked_kind}
-use Rattle.isp_trx.specs.declared.noted.RowKey.{RowKey}
+use Rattle.isp_trx.specs.declared.keys.RowKey.{RowKey}
 
 pub record TrxState : Type 0 where
+  -- the session's number, which is that of its undo slot
   pub session : ℕ
-  -- what stood at the keys before, the newest first
-  pub images : List OldImage
+  -- how many old rows its chain has
+  pub count : ℕ
   -- each key that a row was written at, in order
   pub keys : List RowKey
   -- for how many more changes memory is there
@@ -21,38 +22,30 @@ old_image at (Some kept) = record { table = at.table; key = at.key; kind = if ke
 -- the second is the first, but for the memory that it has
 pub record SameTrx (old new : TrxState) : Type 0 where
   pub session : new.session ≡ old.session
-  pub images : new.images ≡ old.images
+  pub count : new.count ≡ old.count
   pub keys : new.keys ≡ old.keys
 
 -- it has noted what stood at a key, which it wrote
-pub record HasNoted (at : RowKey) (old_row : Option Kept) (old new : TrxState) : Type 0 where
+pub record HasNoted (at : RowKey) (old new : TrxState) : Type 0 where
   pub session : new.session ≡ old.session
-  pub images : new.images ≡ old_image at old_row ∷ old.images
+  pub count : new.count ≡ old.count + 1
   pub keys : new.keys ≡ old.keys ++ at ∷ []
   pub spare : new.spare + 1 ≡ old.spare
 
 -- it has taken back the newest change, or there is none
-abbrev pub rest_of : List OldImage → List OldImage
-rest_of [] = []
-rest_of (image ∷ images) = images
-
 pub record HasUndone (old new : TrxState) : Type 0 where
   pub session : new.session ≡ old.session
-  pub images : new.images ≡ rest_of old.images
+  pub count : new.count ≡ old.count - 1
   pub keys : new.keys ≡ old.keys
 
--- it has forgotten what stood before its changes
-pub record HasForgotten (old new : TrxState) : Type 0 where
+-- none of its changes can be taken back any more
+pub record HasCommitted (old new : TrxState) : Type 0 where
   pub session : new.session ≡ old.session
-  pub images : new.images ≡ []
+  pub count : new.count ≡ 0
   pub keys : new.keys ≡ old.keys
 
 -- one that has written nothing
 pub record IsNew (session : ℕ) (trx : TrxState) : Type 0 where
   pub session_is : trx.session ≡ session
-  pub images : trx.images ≡ []
+  pub count : trx.count ≡ 0
   pub keys : trx.keys ≡ []
-
-abbrev pub is_empty : List OldImage → Bool
-is_empty [] = true
-is_empty (image ∷ images) = false

@@ -1,33 +1,44 @@
 //! A transaction ends.
-ghost use Rattle.std.specs.Prelude.{◌≡◌, true, false, IfErr, OnOk};
-ghost use Rattle.isp_page.specs.Calls.{Flushes};
-ghost use Rattle.isp_page.specs.Steps.{IsNoDamage};
-ghost use Rattle.isp_trx.specs.Transactions.{HasForgotten};
-ghost use Rattle.isp_trx.specs.Writes.{Commits};
+ghost use Rattle.std.specs.Prelude.{◌≡◌, ℕ, List, true, false, IfErr, OnOk};
+ghost use Rattle.isp_undo.specs.Chains.{Chain};
+ghost use Rattle.isp_image.specs.Databases.{Database};
+ghost use Rattle.isp_image.specs.Faults.{NamesLater};
+ghost use Rattle.isp_page.specs.Calls.{Continues, MakesWith};
+ghost use Rattle.isp_page.specs.Steps.{FailsOnPages, IsNoDamage, LeavesAlone};
+ghost use Rattle.isp_trx.specs.Transactions.{HasCommitted};
+ghost use Rattle.isp_trx.specs.Writes.{CanCommit, Commits};
 
 use crate::trx::Trx;
 use isp_page::{Pages, StoreFault};
+use isp_undo::finish;
 
 impl Trx {
-    /// Makes its changes the committed ones, for good. It takes no memory and no page, and tells
-    /// nothing.
+    /// Makes its changes the committed ones, for good: the undo chain of the session's slot is
+    /// finished, in one mini-transaction, and that flushed, so that a stop leaves what is there now
+    /// and nothing else. It takes no memory and no page, and tells nothing.
     ///
     /// # Errors
     ///
-    /// Disk.
+    /// Disk; or Damaged, as of `finish` of isp_undo.
     pub fn commit<P: Pages>(&mut self, pages: &mut P) -> Result<(), StoreFault>
         requires usable { P.usable pages.old ≡ true }
         requires none { (P.mini pages.old).is_begun ≡ false }
-        ensures flushed { Flushes P.Pages pages.old pages.new result }
-        ensures mini { OnOk result (P.mini pages.new ≡ P.mini pages.old) }
+        ensures made { MakesWith FailsOnPages P.Pages (Commits (P.shape pages.old).pages (P.contents
+            pages.old)
+            self.old.session) pages.old pages.new result }
+        ensures flushed { P.tells → OnOk result (LeavesAlone (P.contents pages.new) (P.may_leave
+            pages.new)) }
+        ensures mini { OnOk result ((P.mini pages.new).is_begun ≡ false) }
         ensures commits { P.tells → OnOk result (Commits (P.shape pages.old).pages (P.contents
             pages.old)
-            (P.contents pages.new)) }
-        ensures ended { HasForgotten self.old self.new }
-        ensures sound { IfErr result IsNoDamage }
+            self.old.session (P.contents pages.new)) }
+        ensures ended { OnOk result (HasCommitted self.old self.new) }
+        ensures session { self.new.session ≡ self.old.session }
+        ensures sound { P.tells → (chains : List Chain) (chain : Chain) (d : Database)
+            → CanCommit (P.shape pages.old).pages (P.contents pages.old) chains self.old.session
+            chain d → IfErr result IsNoDamage }
+        ensures later { IfErr result NamesLater }
     {
-        self.forget();
-        pages.flush()?;
-        Ok(())
+        todo!()
     }
 }

@@ -2,7 +2,7 @@
 ghost use Rattle.std.specs.List.Sorted.{IsPermutation, IsSorted};
 ghost use Rattle.isp_trx.specs.Order.{key_cmp};
 
-use crate::noted::RowKey;
+use crate::keys::RowKey;
 
 /// The same keys, rising by table and key. It takes no memory.
 pub fn rising(keys: Vec<RowKey>) -> Vec<RowKey>

@@ -1,5 +1,6 @@
 //! Marked rows go.
-ghost use Rattle.std.specs.Prelude.{◌≡◌, ◌<◌, ◌∷◌, [], ℕ, true, false, IfErr, IfOk, OnOk};
+ghost use Rattle.std.specs.Prelude.{◌≡◌, ◌<◌, ◌∷◌, [], ℕ, List, true, false, IfErr, IfOk, OnOk};
+ghost use Rattle.isp_undo.specs.Chains.{Chain};
 ghost use Rattle.isp_clustered.specs.Calls.{HasTree};
 ghost use Rattle.isp_space.specs.Changes.{MayChange};
 ghost use Rattle.isp_clustered.specs.Trees.{Tree, has_marked};
@@ -10,7 +11,7 @@ ghost use Rattle.isp_image.specs.Faults.{NamesLater, NamesLaterOrLacks};
 ghost use Rattle.isp_trx.specs.Roots.{AreWithin, numbers_of};
 ghost use Rattle.isp_trx.specs.Writes.{CanSweep, Drops, Sweeps, SweepsAt, SweepsSome, kept_mark};
 
-use crate::noted::RowKey;
+use crate::keys::RowKey;
 use crate::roots::root_of;
 use isp_clustered::{Kept, drop_marked, get};
 use isp_format::{CATALOGUE_RULE, PageNo, SPACE_PAGE};
@@ -159,8 +160,8 @@ fn drop_key<P: Pages>(
     ensures mini { OnOk result ((P.mini pages.new).is_begun ≡ false) }
     ensures swept { P.tells → OnOk result (Sweeps (P.shape pages.old).pages (P.contents pages.old)
         (numbers_of roots.now) (at ∷ []) (at ∷ []) (P.contents pages.new)) }
-    ensures sound { P.tells → (d : Database) → CanSweep (P.shape pages.old).pages
-        (P.contents pages.old) (numbers_of roots.now) (at ∷ []) d
+    ensures sound { P.tells → (chains : List Chain) (d : Database) → CanSweep (P.shape pages.old).pages
+        (P.contents pages.old) chains (numbers_of roots.now) (at ∷ []) d
         → IfErr result IsNoDamageOrLacks }
     ensures later { IfErr result NamesLaterOrLacks }
 {
@@ -194,8 +195,8 @@ pub fn drop_marked_rows<P: Pages>(
     ensures mini { OnOk result ((P.mini pages.new).is_begun ≡ false) }
     ensures swept { P.tells → OnOk result (Sweeps (P.shape pages.old).pages (P.contents pages.old)
         (numbers_of roots.now) keys.now keys.now (P.contents pages.new)) }
-    ensures sound { P.tells → (d : Database) → CanSweep (P.shape pages.old).pages
-        (P.contents pages.old) (numbers_of roots.now) keys.now d
+    ensures sound { P.tells → (chains : List Chain) (d : Database) → CanSweep (P.shape pages.old).pages
+        (P.contents pages.old) chains (numbers_of roots.now) keys.now d
         → IfErr result IsNoDamageOrLacks }
     ensures later { IfErr result NamesLaterOrLacks }
 {

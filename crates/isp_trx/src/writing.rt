@@ -1,9 +1,9 @@
 //! A row is written.
-ghost use Rattle.std.specs.Prelude.{◌≡◌, ◌≤◌, ◌<◌, ℕ, List, true, false, length, IfErr, OnOk};
+ghost use Rattle.std.specs.Prelude.{◌≡◌, ◌≤◌, ◌<◌, ℕ, List, true, false, length, IfErr, IfSome, OnOk};
 ghost use Rattle.isp_space.specs.Changes.{MayChange};
 ghost use Rattle.isp_clustered.specs.Puts.{most_put};
 ghost use Rattle.isp_format.specs.Leaf.{most_slot};
-ghost use Rattle.isp_format.specs.Undo.{OldImage};
+ghost use Rattle.isp_undo.specs.Chains.{Chain};
 ghost use Rattle.isp_image.specs.Databases.{Database, FileTable};
 ghost use Rattle.isp_image.specs.Faults.{NamesLater};
 ghost use Rattle.isp_page.specs.Calls.{Continues, MakesWith};
@@ -12,11 +12,13 @@ ghost use Rattle.isp_plain.specs.declared.value.Row.{Row};
 ghost use Rattle.isp_trx.specs.Transactions.{HasNoted};
 ghost use Rattle.isp_trx.specs.Writes.{CanWrite, Writes, is_smaller, write_at};
 
-use crate::noted::RowKey;
+use crate::images::entry_of;
+use crate::keys::RowKey;
 use crate::trx::Trx;
 use isp_clustered::{Kept, put, rewrite};
 use isp_format::PageNo;
 use isp_page::{Pages, StoreFault};
+use isp_undo::push;
 
 // Whether a row of so many bytes has to be put, since its key isn't there or has a smaller slot.
 fn is_put(old: &Option<Kept>, size: usize) -> bool
@@ -28,113 +30,23 @@ fn is_put(old: &Option<Kept>, size: usize) -> bool
     }
 }
 
-// Puts the row, or writes it into the slot of its key.
-fn write_tree<P: Pages>(
-    pages: &mut P,
-    root: PageNo,
-    at: RowKey,
-    old: &Option<Kept>,
-    row: &[u8],
-    marked: bool,
-) -> Result<(), StoreFault>
-    requires can { MayChange P.Pages most_put pages.old }
-    requires page { root.0 < (P.shape pages.old).pages }
-    requires row { length row.now ≤ most_slot }
-    ensures kept { Continues P.Pages pages.old pages.new result }
-    ensures begun { OnOk result ((P.mini pages.new).is_begun ≡ true) }
-    ensures written { P.tells → (images : List OldImage) → OnOk result (Writes (P.shape
-        pages.old).pages
-        (P.contents pages.old) images (write_at at root.0 old.now row.now marked) (P.contents
-        pages.new)) }
-    ensures sound { P.tells → (images : List OldImage) (d : Database) (t : FileTable) (r : Row)
-        → CanWrite (P.shape pages.old).pages (P.contents pages.old) images
-        (write_at at root.0 old.now row.now marked) d t r → IfErr result IsNoDamage }
-    ensures later { IfErr result NamesLater }
-{
-    if is_put(old, row.len()) {
-        put(pages, root, at.key, row)
-    } else {
-        rewrite(pages, root, at.key, row, marked)
-    }
-}
-
-// The same in a mini-transaction of its own, which isn't finished yet.
-fn begin_write<P: Pages>(
-    pages: &mut P,
-    root: PageNo,
-    at: RowKey,
-    old: &Option<Kept>,
-    row: &[u8],
-    marked: bool,
-) -> Result<(), StoreFault>
-    requires usable { P.usable pages.old ≡ true }
-    requires none { (P.mini pages.old).is_begun ≡ false }
-    requires page { root.0 < (P.shape pages.old).pages }
-    requires row { length row.now ≤ most_slot }
-    ensures kept { Continues P.Pages pages.old pages.new result }
-    ensures begun { OnOk result ((P.mini pages.new).is_begun ≡ true) }
-    ensures written { P.tells → (images : List OldImage) → OnOk result (Writes (P.shape
-        pages.old).pages
-        (P.contents pages.old) images (write_at at root.0 old.now row.now marked) (P.contents
-        pages.new)) }
-    ensures sound { P.tells → (images : List OldImage) (d : Database) (t : FileTable) (r : Row)
-        → CanWrite (P.shape pages.old).pages (P.contents pages.old) images
-        (write_at at root.0 old.now row.now marked) d t r → IfErr result IsNoDamage }
-    ensures later { IfErr result NamesLater }
-{
-    pages.begin();
-    write_tree(pages, root, at, old, row, marked)?;
-    Ok(())
-}
-
-// The same, finished.
-fn write_pages<P: Pages>(
-    pages: &mut P,
-    root: PageNo,
-    at: RowKey,
-    old: &Option<Kept>,
-    row: &[u8],
-    marked: bool,
-) -> Result<(), StoreFault>
-    requires usable { P.usable pages.old ≡ true }
-    requires none { (P.mini pages.old).is_begun ≡ false }
-    requires page { root.0 < (P.shape pages.old).pages }
-    requires row { length row.now ≤ most_slot }
-    ensures made { (images : List OldImage) → MakesWith FailsOnPages P.Pages (Writes (P.shape
-        pages.old).pages
-        (P.contents pages.old) images (write_at at root.0 old.now row.now marked)) pages.old
-        pages.new result }
-    ensures mini { OnOk result ((P.mini pages.new).is_begun ≡ false) }
-    ensures written { P.tells → (images : List OldImage) → OnOk result (Writes (P.shape
-        pages.old).pages
-        (P.contents pages.old) images (write_at at root.0 old.now row.now marked) (P.contents
-        pages.new)) }
-    ensures sound { P.tells → (images : List OldImage) (d : Database) (t : FileTable) (r : Row)
-        → CanWrite (P.shape pages.old).pages (P.contents pages.old) images
-        (write_at at root.0 old.now row.now marked) d t r → IfErr result IsNoDamage }
-    ensures later { IfErr result NamesLater }
-{
-    match begin_write(pages, root, at, old, row, marked) {
-        Ok(()) => pages.finish(),
-        Err(fault) => Err(fault),
-    }
-}
+// (The parts of `write_row` stand here: the entry pushed, the row put or rewritten, in one mini-transaction, and that finished.)
 
 impl Trx {
-    /// Writes a row at a key of a table, whose tree has that root, in one mini-transaction, and
-    /// notes what stood there: the row is put where the key isn't there or its slot is smaller, and
-    /// is then not to be marked; else it is written into the slot, with this mark. It takes no
-    /// memory. A row is deleted by writing it as it stands, marked.
+    /// Writes a row at a key of a table, whose tree has that root, and what stands there as the newest entry of the session's
+    /// undo chain, both in one mini-transaction: the entry goes first; the row is put where the key isn't there or its slot is
+    /// smaller, and is then not to be marked; else it is written into the slot, with this mark. It takes no memory, at most one
+    /// page for the entry and those of `put`. A row is deleted by writing it as it stands, marked.
     ///
     /// # Errors
     ///
-    /// Disk; or Damaged, as of `put` and `rewrite` of isp_clustered.
+    /// Disk; or Damaged, as of `push` of isp_undo and of `put` and `rewrite` of isp_clustered. The transaction is as it was then.
     pub fn write_row<P: Pages>(
         &mut self,
         pages: &mut P,
         root: PageNo,
         at: RowKey,
-        old: Option<Kept>,
+        old: &Option<Kept>,
         row: &[u8],
         marked: bool,
     ) -> Result<(), StoreFault>
@@ -142,24 +54,26 @@ impl Trx {
         requires none { (P.mini pages.old).is_begun ≡ false }
         requires page { root.0 < (P.shape pages.old).pages }
         requires row { length row.now ≤ most_slot }
+        requires short { IfSome old.now (λ kept. length kept.row ≤ most_slot) }
         requires spare { 1 ≤ self.old.spare }
         ensures made { MakesWith FailsOnPages P.Pages (Writes (P.shape pages.old).pages (P.contents
             pages.old)
-            self.old.images (write_at at root.0 old row.now marked)) pages.old pages.new result }
+            self.old.session (write_at at root.0 old.now row.now marked)) pages.old pages.new result }
         ensures mini { OnOk result ((P.mini pages.new).is_begun ≡ false) }
         ensures written { P.tells → OnOk result (Writes (P.shape pages.old).pages (P.contents
             pages.old)
-            self.old.images (write_at at root.0 old row.now marked) (P.contents pages.new)) }
-        ensures noted { OnOk result (HasNoted at old self.old self.new) }
+            self.old.session (write_at at root.0 old.now row.now marked) (P.contents pages.new)) }
+        ensures noted { OnOk result (HasNoted at self.old self.new) }
+        ensures failed { IfErr result (λ fault. self.new ≡ self.old) }
         ensures session { self.new.session ≡ self.old.session }
-        ensures sound { P.tells → (d : Database) (t : FileTable) (r : Row)
-            → CanWrite (P.shape pages.old).pages (P.contents pages.old) self.old.images
-            (write_at at root.0 old row.now marked) d t r → IfErr result IsNoDamage }
+        ensures sound { P.tells → (chains : List Chain) (chain : Chain) (d : Database) (t : FileTable) (r : Row)
+            → CanWrite (P.shape pages.old).pages (P.contents pages.old) chains self.old.session chain
+            (write_at at root.0 old.now row.now marked) d t r → IfErr result IsNoDamage }
         ensures later { IfErr result NamesLater }
     {
-        match write_pages(pages, root, at, &old, row, marked) {
+        match write_pages(pages, self.session(), root, at, old, row, marked) {
             Ok(()) => {
-                self.note(at, old);
+                self.note(at);
                 Ok(())
             }
             Err(fault) => Err(fault),

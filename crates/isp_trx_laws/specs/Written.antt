@@ -5,7 +5,7 @@ use Rattle.std.specs.Ordering.{int_eq}
 use Rattle.isp_image.specs.Courses.{stood_at}
 use Rattle.isp_image.specs.Databases.{Database, FileImage, FileTable}
 use Rattle.isp_trx.specs.Writes.{is_marked, place_of}
-use Rattle.isp_trx.specs.declared.noted.RowKey.{RowKey}
+use Rattle.isp_trx.specs.declared.keys.RowKey.{RowKey}
 
 -- one of the keys is this one of the table at that place, from 0
 abbrev pub is_written : List RowKey → ℕ → ℤ → Bool

@@ -9,6 +9,4 @@ pub use keys::{
     law_commit_adds_none, law_create_adds_none, law_none_written, law_sweep_leaves_none,
     law_undo_adds_none, law_write_adds_key, law_written_in_any_order, law_written_may_sweep,
 };
-pub use steps::{
-    law_course_goes_on, law_stage_begins, law_stage_creates, law_stage_undoes, law_stage_writes,
-};
+pub use steps::{law_stage_begins, law_stage_creates, law_stage_undoes, law_stage_writes};

@@ -1,6 +1,6 @@
 //! The steps of a statement.
 
-ghost use Rattle.isp_trx_laws.specs.Laws.{CourseGoesOn, StageBegins, StageCreates, StageUndoes, StageWrites};
+ghost use Rattle.isp_trx_laws.specs.Laws.{StageBegins, StageCreates, StageUndoes, StageWrites};
 
 /// A statement begins with nothing noted.
 pub fn law_stage_begins()
@@ -20,9 +20,4 @@ pub fn law_stage_undoes()
 /// A table more.
 pub fn law_stage_creates()
     ensures { StageCreates }
-{}
-
-/// The course goes on by what is kept.
-pub fn law_course_goes_on()
-    ensures { CourseGoesOn }
 {}

@@ -1,6 +1,6 @@
 -- Why a statement is answered that the file is full: there is no room for one more change.
 use Rattle.std.specs.Prelude.{◌≡◌, ℕ, false}
-use Rattle.isp_image.specs.Courses.{Reaches}
+use Rattle.isp_chained.specs.Courses.{Reaches}
 use Rattle.isp_image.specs.Databases.{Database}
 use Rattle.isp_space.specs.Spaces.{has_room}
 

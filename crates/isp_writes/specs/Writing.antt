@@ -8,18 +8,20 @@ use Rattle.isp_clustered.specs.Rows.{find}
 use Rattle.isp_clustered.specs.Trees.{rows_of}
 use Rattle.isp_clustered.specs.declared.kept.Kept.{Kept}
 use Rattle.isp_format.specs.Ranges.{Contents}
-use Rattle.isp_format.specs.Undo.{OldImage}
-use Rattle.isp_image.specs.Courses.{Reaches}
+use Rattle.isp_chained.specs.Courses.{Reaches}
 use Rattle.isp_image.specs.Databases.{Database, FileImage, FileTable, back_of, tables_of}
-use Rattle.isp_image.specs.Files.{IsSpelling, KeptFile}
+use Rattle.isp_image.specs.Files.{IsSpelling}
+use Rattle.isp_undo.specs.Chains.{Chain}
+use Rattle.isp_chained.specs.Chained.{ChainedFile}
+use Rattle.isp_chained.specs.Steps.{IsFreeIn}
 use Rattle.isp_page.specs.declared.pages.Pages.{Ghosts}
 use Rattle.isp_plain.specs.Lined.{is_lined_row}
 use Rattle.isp_plain.specs.Values.{key_of}
 use Rattle.isp_plain.specs.RowBytes.{row_limit}
 use Rattle.isp_plain.specs.declared.value.Row.{Row}
 use Rattle.isp_plain.specs.declared.value.Schema.{Schema}
-use Rattle.isp_trx.specs.Transactions.{HasNoted, TrxState}
-use Rattle.isp_trx.specs.Writes.{CanWrite, Write, Wrote, images_of, is_smaller, place_of}
+use Rattle.isp_trx.specs.Transactions.{HasNoted, TrxState, old_image}
+use Rattle.isp_trx.specs.Writes.{CanWrite, Write, Wrote, is_smaller, place_of}
 use Rattle.isp_writes.specs.Causes.{IsFull}
 use Rattle.isp_tables.specs.Opened.{IsOpen}
 
@@ -41,11 +43,12 @@ IsBytesOf schema row false old found = SpellsNew schema row found
 
 -- ---- one write
 
--- The contents are this database, whose old rows the transaction noted; what stands at the key is known, and the bytes spell a row of
--- the table. Whether there is room isn't said.
-pub record MayWrite (pages : ℕ) (contents : Contents) (images : List OldImage) (w : Write) (d : Database) (t : FileTable) (row : Row) : Type 0 where
-  pub kept : KeptFile pages contents d
-  pub noted : images_of d ≡ images
+-- The contents are this database with these chains, of which the slot's is this one; what stands at the key is known, no other slot has
+-- an old row of it, and the bytes spell a row of the table. Whether there is room isn't said.
+pub record MayWrite (pages : ℕ) (contents : Contents) (chains : List Chain) (slot : ℕ) (chain : Chain) (w : Write) (d : Database) (t : FileTable) (row : Row) : Type 0 where
+  pub kept : ChainedFile pages contents d chains
+  pub own : slice_get chains slot ≡ Some chain
+  pub free : IsFreeIn (old_image w.at w.old) slot chains
   pub from : 1 ≤ w.at.table
   pub is_there : slice_get d.tables (place_of w.at) ≡ Some t
   pub root : t.def.root.0 ≡ w.root
@@ -54,13 +57,13 @@ pub record MayWrite (pages : ℕ) (contents : Contents) (images : List OldImage)
   pub unmarked : is_smaller (length w.row) w.old ≡ true → w.marked ≡ false
 
 -- it was written, or there was no room, and nothing changed
-abbrev pub WroteOrFull : ℕ → Contents → Contents → TrxState → TrxState → Write → Database → FileTable → Row → Bool → Type 0
-WroteOrFull pages old new trx trx_now w d t row true = CanWrite pages old trx.images w d t row × Wrote pages new w row d × HasNoted w.at w.old trx trx_now
-WroteOrFull pages old new trx trx_now w d t row false = (new ≡ old) × (trx_now ≡ trx) × IsFull pages d
+abbrev pub WroteOrFull : ℕ → Contents → Contents → List Chain → Chain → TrxState → TrxState → Write → Database → FileTable → Row → Bool → Type 0
+WroteOrFull pages old new chains chain trx trx_now w d t row true = CanWrite pages old chains trx.session chain w d t row × Wrote pages new chains trx.session chain w row d × HasNoted w.at trx trx_now
+WroteOrFull pages old new chains chain trx trx_now w d t row false = (new ≡ old) × (trx_now ≡ trx) × IsFull pages d
 
 -- so many changes are noted
 abbrev pub Notes : TrxState → TrxState → Bool → Type 0
-Notes trx trx_now done = length trx_now.images ≡ length trx.images + (if done then 1 else 0)
+Notes trx trx_now done = trx_now.count ≡ trx.count + (if done then 1 else 0)
 
 -- ---- one row of a table
 

@@ -1,6 +1,6 @@
 //! A change is taken back.
 
-ghost use Rattle.std.specs.Prelude.{◌≡◌, length, nat_lt, IfErr, OnOk};
+ghost use Rattle.std.specs.Prelude.{◌≡◌, nat_lt, IfErr, OnOk};
 ghost use Rattle.isp_image.specs.Databases.{Database};
 ghost use Rattle.isp_image.specs.Faults.{NamesLaterOrLacks};
 ghost use Rattle.isp_page.specs.Steps.{IsNoDamageOrLacks};
@@ -26,9 +26,9 @@ pub fn undo_newest<P: Pages>(
     requires serves { Serves P.Pages pages.old tables.now }
     ensures kept { Keeps P.Pages pages.old pages.new result }
     ensures serves { OnOk result (Serves P.Pages pages.new tables.now) }
-    ensures notes { OnOk result (length trx.new.images ≡ fewer base (length trx.old.images)) }
+    ensures notes { OnOk result (trx.new.count ≡ fewer base trx.old.count) }
     ensures undone { P.tells → (d : Database) → IsOpen P.Pages pages.old tables.now trx.old d
-        → OnOk result (UndidOrNot P.Pages pages.new tables.now trx.new (nat_lt base (length trx.old.images)) d) }
+        → OnOk result (UndidOrNot P.Pages pages.new tables.now trx.new (nat_lt base trx.old.count) d) }
     ensures session { trx.new.session ≡ trx.old.session }
     ensures sound { P.tells → (d : Database) → IsOpen P.Pages pages.old tables.now trx.old d
         → IfErr result IsNoDamageOrLacks }

@@ -3,6 +3,8 @@
 ghost use Rattle.std.specs.Prelude.{◌≡◌, ◌≤◌, ◌<◌, ℕ, List, true, false, length, Some, IfErr, IfOk, IfSome, OnOk};
 ghost use Rattle.isp_catalog.specs.declared.table.TableDef.{TableDef};
 ghost use Rattle.isp_clustered.specs.declared.kept.Kept.{Kept};
+ghost use Rattle.isp_format.specs.Leaf.{most_slot};
+ghost use Rattle.isp_undo.specs.Chains.{Chain};
 ghost use Rattle.isp_image.specs.Databases.{Database, FileTable};
 ghost use Rattle.isp_image.specs.Faults.{NamesLaterOrLacks};
 ghost use Rattle.isp_page.specs.Steps.{IsNoDamageOrLacks};
@@ -70,7 +72,7 @@ fn write_bytes<P: Pages>(
     trx: &mut Trx,
     root: PageNo,
     at: RowKey,
-    old: Option<Kept>,
+    old: &Option<Kept>,
     bytes: &[u8],
     deletes: bool,
 ) -> Result<bool, Fault>
@@ -78,19 +80,21 @@ fn write_bytes<P: Pages>(
     requires none { (P.mini pages.old).is_begun ≡ false }
     requires page { root.0 < (P.shape pages.old).pages }
     requires size { length bytes.now ≤ 1000 }
+    requires short { IfSome old.now (λ kept. length kept.row ≤ most_slot) }
     requires spare { 1 ≤ trx.old.spare }
     ensures kept { Keeps P.Pages pages.old pages.new result }
     ensures mini { OnOk result ((P.mini pages.new).is_begun ≡ false) }
     ensures notes { IfOk result (Notes trx.old trx.new) }
-    ensures wrote { P.tells → (d : Database) (t : FileTable) (r : Row)
-        → MayWrite (P.shape pages.old).pages (P.contents pages.old) trx.old.images
-        (write_at at root.0 old bytes.now deletes) d t r
+    ensures wrote { P.tells → (chains : List Chain) (chain : Chain) (d : Database) (t : FileTable) (r : Row)
+        → MayWrite (P.shape pages.old).pages (P.contents pages.old) chains trx.old.session chain
+        (write_at at root.0 old.now bytes.now deletes) d t r
         → IfOk result (WroteOrFull (P.shape pages.old).pages (P.contents pages.old)
-        (P.contents pages.new) trx.old trx.new (write_at at root.0 old bytes.now deletes) d t r) }
+        (P.contents pages.new) chains chain trx.old trx.new
+        (write_at at root.0 old.now bytes.now deletes) d t r) }
     ensures session { trx.new.session ≡ trx.old.session }
-    ensures sound { P.tells → (d : Database) (t : FileTable) (r : Row)
-        → MayWrite (P.shape pages.old).pages (P.contents pages.old) trx.old.images
-        (write_at at root.0 old bytes.now deletes) d t r → IfErr result IsNoDamageOrLacks }
+    ensures sound { P.tells → (chains : List Chain) (chain : Chain) (d : Database) (t : FileTable) (r : Row)
+        → MayWrite (P.shape pages.old).pages (P.contents pages.old) chains trx.old.session chain
+        (write_at at root.0 old.now bytes.now deletes) d t r → IfErr result IsNoDamageOrLacks }
     ensures later { IfErr result NamesLaterOrLacks }
 {
     if !has_room(pages)? {
@@ -141,7 +145,7 @@ pub fn write_row<P: Pages>(
         key,
     };
     match bytes_for(alloc, &def.schema, row, deletes, &old)? {
-        Some(bytes) => write_bytes(pages, trx, def.root, at, old, bytes.as_slice(), deletes),
+        Some(bytes) => write_bytes(pages, trx, def.root, at, &old, bytes.as_slice(), deletes),
         None => Err(Fault::Store(StoreFault::Damaged {
             page: def.root.0,
             rule: 7,

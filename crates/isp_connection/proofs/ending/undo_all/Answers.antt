@@ -1,10 +1,10 @@
-use Rattle.std.proofs.Common.{◌≡◌, ℕ, Bool, true, length, sym, ◌∙◌, ap, subst, arith}
+use Rattle.std.proofs.Common.{◌≡◌, ℕ, Bool, true, sym, ◌∙◌, ap, subst, arith}
 use Rattle.std.specs.Prelude.{Ok, nat_lt}
 use Rattle.std.proofs.lemmas.Bool.Decides.{nat_tests}
 use Rattle.isp_page.specs.State.{FileShape}
 use Rattle.isp_tables.proofs.KeepLaws.{keeps_on}
 use Rattle.isp_writes.specs.Writing.{UndidOrNot}
-use Rattle.isp_connection.proofs.EndLaws.{all_undone, no_length, undid_more}
+use Rattle.isp_connection.proofs.EndLaws.{all_undone, undid_more}
 use Rattle.isp_connection.proofs.ending.undo_all.Goals as goal
 
 pub undoing-preserved : goal.undoing-preserved
@@ -15,7 +15,7 @@ undoing-preserved g c =
     let new = c.undo_newest.new.pages in
     let count = c.undo_count.ensures in
     let test = c.undoing-test.true in
-    let some_left : nat_lt 0 (length before.images) ≡ true = grind (arith, nat_tests, count, test) in (
+    let some_left : nat_lt 0 before.count ≡ true = grind (arith, nat_tests, count, test) in (
       keeps_on g.P.Pages c.args.pages.now c.undoing.pages new tt (Ok tt) c.undoing.invariant.0 e.kept,
       e.serves,
       λ tells d opened.
@@ -30,5 +30,5 @@ returns-clause-undone g c tells d opened =
     let left = c.undoing.trx in
     let count = c.undo_count.ensures in
     let test = c.undoing-test.false in
-    let none : length left.images ≡ 0 = grind (arith, nat_tests, count, test) in
-    all_undone g.P.Pages c.undoing.pages c.args.tables.now left d (c.undoing.invariant.2 tells d opened) (no_length left.images none)
+    let none : left.count ≡ 0 = grind (arith, nat_tests, count, test) in
+    all_undone g.P.Pages c.undoing.pages c.args.tables.now left d (c.undoing.invariant.2 tells d opened) none

@@ -1,4 +1,4 @@
-use Rattle.std.proofs.Common.{◌≡◌, length}
+use Rattle.std.proofs.Common.{◌≡◌}
 use Rattle.std.specs.Prelude.{⊤}
 use Rattle.isp_image.specs.Databases.{Database}
 use Rattle.isp_tables.specs.Calls.{Keeps, Serves}
@@ -15,4 +15,4 @@ invariant-undoing g l =
     × (l.trx.session ≡ l.fn.trx.session)
 
 abbrev pub decreases-undoing : goal.decreases-undoing
-decreases-undoing g l = length l.trx.images
+decreases-undoing g l = l.trx.count

@@ -16,4 +16,4 @@ invariant-steps g l =
     × (l.trx.session ≡ l.fn.trx.session)
 
 abbrev pub decreases-steps : goal.decreases-steps
-decreases-steps g l = height l.work (length l.trx.images)
+decreases-steps g l = height l.work l.trx.count

@@ -9,7 +9,7 @@ returns-in-Ok-clause-answered g c = λ tells base d rests.
     let old = c.args.pages.now in
     let mid = c.open.new.pages in
     let kept = c.in-Ok.ensures.kept.keeps in
-    let runs = opened g.P.Pages mid c.in-Ok.connection d (g.P.Pages.shape old).pages old rests (c.in-Ok.ensures.opened tells d rests.kept rests.none rests.tidy) in
+    let runs = opened g.P.Pages mid c.in-Ok.connection d (g.P.Pages.shape old).pages old rests (c.in-Ok.ensures.opened tells d rests.kept rests.tidy) in
     opened_ends g.P.Pages d c.as_slice.result.now c.args.session.now.texts c.as_slice.ensures old mid c.answer_all.new.pages c.in-Ok.connection.trx.session kept.same_shape kept.silent
     c.args.session.now.number c.in-Ok.ensures.session base c.answer_all.result (c.answer_all.ensures.answered tells base d (settled (tables_of d)) runs)
 
@@ -18,7 +18,7 @@ returns-in-Ok-clause-part g c = λ tells base d rests.
     let old = c.args.pages.now in
     let mid = c.open.new.pages in
     let kept = c.in-Ok.ensures.kept.keeps in
-    let runs = opened g.P.Pages mid c.in-Ok.connection d (g.P.Pages.shape old).pages old rests (c.in-Ok.ensures.opened tells d rests.kept rests.none rests.tidy) in
+    let runs = opened g.P.Pages mid c.in-Ok.connection d (g.P.Pages.shape old).pages old rests (c.in-Ok.ensures.opened tells d rests.kept rests.tidy) in
     opened_cut g.P.Pages d c.as_slice.result.now c.args.session.now.texts c.as_slice.ensures old mid c.answer_all.new.pages c.in-Ok.connection.trx.session kept.same_shape kept.silent
     c.args.session.now.number c.in-Ok.ensures.session base c.answer_all.result (c.answer_all.ensures.part tells base d (settled (tables_of d)) runs)
 
@@ -26,7 +26,7 @@ pub returns-in-Ok-clause-sound : goal.returns-in-Ok-clause-sound
 returns-in-Ok-clause-sound g c = λ tells d rests.
     let old = c.args.pages.now in
     c.answer_all.ensures.sound tells d (settled (tables_of d))
-    (opened g.P.Pages c.open.new.pages c.in-Ok.connection d (g.P.Pages.shape old).pages old rests (c.in-Ok.ensures.opened tells d rests.kept rests.none rests.tidy))
+    (opened g.P.Pages c.open.new.pages c.in-Ok.connection d (g.P.Pages.shape old).pages old rests (c.in-Ok.ensures.opened tells d rests.kept rests.tidy))
 
 pub returns-in-Err-clause-part : goal.returns-in-Err-clause-part
 returns-in-Err-clause-part g c = λ tells base d rests.

@@ -1,4 +1,4 @@
-use Rattle.std.proofs.Common.{rules, ◌≡◌, length, sym, ◌∙◌, ap, subst}
+use Rattle.std.proofs.Common.{rules, ◌≡◌, sym, ◌∙◌, ap, subst}
 use Rattle.isp_exec.proofs.ReadAtLaws.{start_statement}
 use Rattle.isp_exec.specs.Starting.{place_by}
 use Rattle.isp_page.specs.State.{FileShape}
@@ -29,7 +29,7 @@ returns-clause-executed g c tells d state h may =
     let own = hold_inside g.P.Pages c.args.pages.now i c.args.self.now c.self.view_is state d h in
     let now : ConnectionState = record { inside = i.inside; defs = c.run.new.tables; trx = c.settle.new.trx } in
     let ran = r.stands tells d at in
-    let stated : c.run.new.work.statement ≡ s = r.statement ∙ ap (λ (w : Work). w.statement) c.start-work.ensures ∙ start_statement s (length i.trx.images) (place_by i.tables s) in
+    let stated : c.run.new.work.statement ≡ s = r.statement ∙ ap (λ (w : Work). w.statement) c.start-work.ensures ∙ start_statement s i.trx.count (place_by i.tables s) in
     let done =
     executed g.P.Pages c.run.new.pages c.settle.new.pages now c.run.new.trx state d c.run.new.work ran r.ready s stated own.present (λ outside. at_rest g.P.Pages c.args.pages.now c.args.self.now state d h outside) own.committed_are (λ zero. own.setup (sym (e.session ∙ r.session) ∙ zero)) own.inside
     (ap (λ (shape : FileShape). shape.pages) e.kept.same_shape) i.inside (sym own.inside) (λ inside. may.outside (sym own.inside ∙ inside))

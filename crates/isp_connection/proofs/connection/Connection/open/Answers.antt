@@ -5,6 +5,6 @@ use Rattle.isp_connection.proofs.EndLaws.{opens}
 use Rattle.isp_connection.proofs.connection.Connection.open.Goals as goal
 
 pub returns-clause-opened : goal.returns-clause-opened
-returns-clause-opened g c tells d kept none tidy =
+returns-clause-opened g c tells d kept tidy =
     let e = c.in_ok-tables.ensures in
-    opens g.P.Pages c.args.pages.now c.load.new.pages c.args.session c.in_ok-tables.tables c.begin-trx.result d (ap (λ (s : FileShape). s.pages) e.kept.keeps.same_shape) (e.contents tells) kept none tidy (e.found tells d.space (defs_in d) kept.catalogue) c.begin-trx.ensures
+    opens g.P.Pages c.args.pages.now c.load.new.pages c.args.session c.in_ok-tables.tables c.begin-trx.result d (ap (λ (s : FileShape). s.pages) e.kept.keeps.same_shape) (e.contents tells) kept tidy (e.found tells d.space (defs_in d) kept.holds.kept.catalogue) c.requires.slot c.begin-trx.ensures
