@@ -1,6 +1,6 @@
 -- The numbers of the page rules, as a fault names them, and of the pages that have a place of their own.
 use Rattle.std.specs.Prelude.{◌≡◌, ℕ}
-use Rattle.isp_format.specs.declared.rules.TheConstants.{CATALOGUE_PAGE, CATALOGUE_RULE, CHAIN_RULE, CONTROL_RULE, COPIES_RULE, LOG_RULE, RTREE_RULE, SPACE_PAGE, SPACE_RULE, TREE_RULE, UNDO_DIRECTORY_PAGE, UNDO_RULE}
+use Rattle.isp_format.specs.declared.rules.TheConstants.{CATALOGUE_PAGE, CATALOGUE_RULE, CHAIN_RULE, CONTROL_RULE, COPIES_RULE, LOG_RULE, ROWS_RULE, RTREE_RULE, SPACE_PAGE, SPACE_RULE, TREE_RULE, UNDO_DIRECTORY_PAGE, UNDO_RULE, WALK_RULE}
 
 -- the page that says which pages are free, the directory of undo chains, and the first page of the catalogue
 abbrev pub space_number : ℕ
@@ -33,15 +33,22 @@ chain_rule = 5
 abbrev pub catalogue_rule : ℕ
 catalogue_rule = 6
 
--- clustered trees, R-trees, undo chains
+-- clustered trees, the rows of their leaves, R-trees, undo chains
 abbrev pub tree_rule : ℕ
 tree_rule = 7
+
+abbrev pub rows_rule : ℕ
+rows_rule = 8
 
 abbrev pub rtree_rule : ℕ
 rtree_rule = 9
 
 abbrev pub undo_rule : ℕ
 undo_rule = 10
+
+-- no rule of a file: a walk along its pages read more of them than it has
+abbrev pub walk_rule : ℕ
+walk_rule = 13
 
 -- the numbers that the code has are those of the definitions
 pub record AreRules : Type 0 where
@@ -55,5 +62,7 @@ pub record AreRules : Type 0 where
   pub chain : CHAIN_RULE ≡ chain_rule
   pub catalogue : CATALOGUE_RULE ≡ catalogue_rule
   pub tree : TREE_RULE ≡ tree_rule
+  pub rows : ROWS_RULE ≡ rows_rule
   pub rtree : RTREE_RULE ≡ rtree_rule
   pub undo : UNDO_RULE ≡ undo_rule
+  pub walk : WALK_RULE ≡ walk_rule

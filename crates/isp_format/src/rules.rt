@@ -31,11 +31,17 @@ pub const CATALOGUE_RULE: u32 = 6;
 /// Clustered trees.
 pub const TREE_RULE: u32 = 7;
 
+/// The rows of clustered leaves.
+pub const ROWS_RULE: u32 = 8;
+
 /// R-trees.
 pub const RTREE_RULE: u32 = 9;
 
 /// Undo chains.
 pub const UNDO_RULE: u32 = 10;
+
+/// No rule of a file: a walk along its pages read more of them than the file has.
+pub const WALK_RULE: u32 = 13;
 
 /// The numbers are those of the definitions.
 pub fn law_rules()

@@ -3,7 +3,7 @@
 use Rattle.std.specs.Prelude.{◌≡◌, ℕ, ◌⊎◌, ◌<◌, Result, IfErr, OnOk, ⊤}
 use Rattle.isp_forest.specs.Tree.{Tree}
 use Rattle.isp_format.specs.Ranges.{page_of}
-use Rattle.isp_format.specs.Rules.{rtree_rule}
+use Rattle.isp_format.specs.Rules.{rtree_rule, walk_rule}
 use Rattle.isp_page.specs.Calls.{ContinuesOrLacks}
 use Rattle.isp_page.specs.declared.fault.Fault.{Fault}
 use Rattle.isp_page.specs.declared.fault.Fault.TheVariants.{Memory, Store}
@@ -42,7 +42,7 @@ NamesTreeOrLacks pages Memory = ⊤
 abbrev pub NamesWalk : ℕ → StoreFault → Type 0
 NamesWalk pages Disk = ⊤
 NamesWalk pages Print = ⊤
-NamesWalk pages (Damaged page rule) = (page < pages) × ((rule ≡ rtree_rule) ⊎ (rule ≡ 13))
+NamesWalk pages (Damaged page rule) = (page < pages) × ((rule ≡ rtree_rule) ⊎ (rule ≡ walk_rule))
 
 abbrev pub NamesWalkOrLacks : ℕ → Fault → Type 0
 NamesWalkOrLacks pages (Store fault) = NamesWalk pages fault

@@ -14,6 +14,7 @@ use crate::held::held_in;
 use crate::table::scan;
 use isp_catalog::TableDef;
 use isp_clustered::{KeptRow, KeptRows, get};
+use isp_format::ROWS_RULE;
 use isp_page::{Fault, Pages, StoreFault};
 use isp_paths::Path;
 use isp_plain::{Condition, Rows};
@@ -74,7 +75,7 @@ fn look_up<P: Pages>(
         Ok(rows) => Ok(rows),
         Err(RowError::NotRow) => Err(Fault::Store(StoreFault::Damaged {
             page: def.root.0,
-            rule: 8,
+            rule: ROWS_RULE,
         })),
         Err(RowError::OutOfMemory) => Err(Fault::Memory),
     }

@@ -14,7 +14,7 @@ ghost use Rattle.isp_scan.specs.Scanning.{AreRowsOf, HasFileTable, HasLeafRows, 
 use crate::held::held_in;
 use isp_catalog::TableDef;
 use isp_clustered::{Leaf, next_leaf};
-use isp_format::PageNo;
+use isp_format::{PageNo, ROWS_RULE, WALK_RULE};
 use isp_page::{Fault, Pages, StoreFault};
 use isp_plain::{Condition, Rows};
 use isp_row::RowError;
@@ -68,7 +68,7 @@ fn scan_leaf<P: Pages>(
         }
         Err(RowError::NotRow) => Err(Fault::Store(StoreFault::Damaged {
             page: leaf.page.0,
-            rule: 8,
+            rule: ROWS_RULE,
         })),
         Err(RowError::OutOfMemory) => Err(Fault::Memory),
     }
@@ -109,6 +109,6 @@ pub fn scan<P: Pages>(
     }
     Err(Fault::Store(StoreFault::Damaged {
         page: after.unwrap_or(def.root).0,
-        rule: 13,
+        rule: WALK_RULE,
     }))
 }

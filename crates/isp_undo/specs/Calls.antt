@@ -1,7 +1,7 @@
 -- What the calls on undo chains answer, and what they leave.
 use Rattle.std.specs.Prelude.{◌≡◌, ◌⊎◌, ℕ, ◌<◌, Bool, true, List, [], ◌∷◌, ◌++◌, length, Option, Some, None, Result, set, if◌then◌else◌, IfErr, OnOk, ⊤}
 use Rattle.isp_format.specs.Ranges.{Contents}
-use Rattle.isp_format.specs.Rules.{undo_rule}
+use Rattle.isp_format.specs.Rules.{undo_rule, walk_rule}
 use Rattle.isp_format.specs.Undo.{OldImage, Slot as Ends}
 use Rattle.isp_page.specs.Calls.{Continues}
 use Rattle.isp_page.specs.Touched.{KeepsPages}
@@ -26,7 +26,7 @@ image_if found buf = if found then Some (image_in buf) else None
 abbrev pub NamesChain : StoreFault → Type 0
 NamesChain Disk = ⊤
 NamesChain Print = ⊤
-NamesChain (Damaged page rule) = ((rule ≡ undo_rule) ⊎ (rule ≡ 13)) ⊎ NamesSpace (Damaged page rule)
+NamesChain (Damaged page rule) = ((rule ≡ undo_rule) ⊎ (rule ≡ walk_rule)) ⊎ NamesSpace (Damaged page rule)
 
 -- how many pages a call changes at most
 abbrev pub most_pages : ℕ

@@ -1,7 +1,7 @@
 -- What the directory says of a slot, and what calls that read chains name.
 use Rattle.std.specs.Prelude.{◌≡◌, ◌⊎◌, ℕ, ◌<◌, ◌≤◌, Bool, true, false, List, [], ◌∷◌, Option, Some, None, ⊤}
 use Rattle.isp_format.specs.Empty.{first_fresh}
-use Rattle.isp_format.specs.Rules.{undo_rule}
+use Rattle.isp_format.specs.Rules.{undo_rule, walk_rule}
 use Rattle.isp_format.specs.Undo.{Slot as Ends}
 use Rattle.isp_page.specs.declared.fault.StoreFault.{StoreFault}
 use Rattle.isp_page.specs.declared.fault.StoreFault.TheVariants.{Damaged, Disk, Print}
@@ -39,7 +39,7 @@ NamesUndo (Damaged page rule) = rule ≡ undo_rule
 abbrev pub NamesWalk : StoreFault → Type 0
 NamesWalk Disk = ⊤
 NamesWalk Print = ⊤
-NamesWalk (Damaged page rule) = (rule ≡ undo_rule) ⊎ (rule ≡ 13)
+NamesWalk (Damaged page rule) = (rule ≡ undo_rule) ⊎ (rule ≡ walk_rule)
 
 abbrev pub HasChainIn : {S : Type 0} → Ghosts S → S → List Ends → ℕ → Chain → Type 0
 HasChainIn g now slots slot chain = HasChain (g.shape now).pages (g.contents now) slots slot chain

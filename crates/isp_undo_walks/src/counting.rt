@@ -10,7 +10,7 @@ ghost use Rattle.isp_undo_walks.specs.Walks.{IsOn, IsWay};
 ghost use Rattle.isp_undo_pages.specs.Directory.{ends_in};
 
 use crate::reading::{broken, linked, read_undo};
-use isp_format::{Page, PageNo, head};
+use isp_format::{Page, PageNo, WALK_RULE, head};
 use isp_page::{Pages, StoreFault};
 use isp_undo_pages::Slot;
 
@@ -63,7 +63,7 @@ fn step_on<P: Pages>(pages: &mut P, place: Place) -> Result<Place, StoreFault>
     if place.passed >= count {
         return Err(StoreFault::Damaged {
             page: place.page.0,
-            rule: 13,
+            rule: WALK_RULE,
         });
     }
     let page = linked(place.page, place.next, count)?;

@@ -11,7 +11,7 @@ ghost use Rattle.isp_undo_walks.specs.Chains.{Chain, first_page, last_page};
 ghost use Rattle.isp_undo_walks.specs.Walks.{IsBack, IsLastUsed, IsWay};
 
 use crate::reading::{broken, linked, read_undo};
-use isp_format::{CONTENT_PLACE, Page, PageNo, head};
+use isp_format::{CONTENT_PLACE, Page, PageNo, WALK_RULE, head};
 use isp_page::{Pages, StoreFault};
 
 /// A page to which a walk back along a chain has come.
@@ -74,7 +74,7 @@ fn step_back<P: Pages>(pages: &mut P, stop: Stop, into: &mut Page) -> Result<Sto
     if stop.passed >= count {
         return Err(StoreFault::Damaged {
             page: stop.page.0,
-            rule: 13,
+            rule: WALK_RULE,
         });
     }
     let page = linked(stop.page, head(into).prev, count)?;
