@@ -1,3 +1,4 @@
+pub mod Backs
 pub mod Laws
 pub mod Order
 pub mod Roots
