@@ -4,14 +4,13 @@ use Rattle.std.specs.Prelude.{not, nat_lt, slice_get}
 use Rattle.std.proofs.lemmas.Bool.Decides.{nat_tests}
 use Rattle.isp_format.specs.Ranges.{Contents, page_of}
 use Rattle.isp_format.specs.Space.{IsSpacePage}
-use Rattle.isp_format.specs.Undo.{IsUndoDirectory}
 use Rattle.isp_page.specs.Touched.{KeepsPages}
 use Rattle.isp_catalog.proofs.CatalogueLaws.{local}
 use Rattle.isp_space.specs.Spaces.{space_page}
 use Rattle.isp_space.proofs.SpaceLaws.{chain_same}
 use Rattle.isp_clustered.proofs.TreeLaws.{tree_same}
 use Rattle.isp_image.specs.Databases.{Database, FileTable}
-use Rattle.isp_image.specs.Files.{IsFileTable, KeptFile, no_slots}
+use Rattle.isp_image.specs.Files.{IsFileTable, KeptFile}
 use Rattle.isp_image.proofs.FileLaws.{def_of}
 use Rattle.isp_image.proofs.TreeChanges.{beside_of}
 
@@ -19,17 +18,17 @@ use Rattle.isp_image.proofs.TreeChanges.{beside_of}
 abbrev unused : ℕ → ℕ → Bool
 unused fresh page = not (nat_lt page fresh)
 
-used_page : (fresh page : ℕ) → unused fresh page ≡ false → page < fresh
+pub used_page : (fresh page : ℕ) → unused fresh page ≡ false → page < fresh
 used_page fresh page is = by (nat_lt page fresh) refl is
   where
     by : (b : Bool) → nat_lt page fresh ≡ b → not b ≡ false → page < fresh
     by true less out = grind (arith, nat_tests, less)
     by false far out = let bad : true ≡ false = out in absurd (let no_way : ⊥ = cc in no_way)
 
-is_used : (fresh page : ℕ) → page < fresh → unused fresh page ≡ false
+pub is_used : (fresh page : ℕ) → page < fresh → unused fresh page ≡ false
 is_used fresh page less = let is : nat_lt page fresh ≡ true = grind (arith, nat_tests, less) in ap not is
 
-pub kept_local : (pages : ℕ) (old new : Contents) (db : Database) → KeptFile pages old db → ((page : ℕ) → page < db.space.fresh → page_of new page ≡ page_of old page) → KeptFile pages new db
+abbrev pub kept_local : (pages : ℕ) (old new : Contents) (db : Database) → KeptFile pages old db → ((page : ℕ) → page < db.space.fresh → page_of new page ≡ page_of old page) → KeptFile pages new db
 kept_local pages old new db kept same =
     let space = kept.catalogue.space_is in
     let from = space.fresh_from in
@@ -48,7 +47,6 @@ kept_local pages old new db kept same =
         count = kept.catalogue.count;
         catalogue = local pages old new (map def_of db.tables) (λ page low high. same page (omega (arith, high, from))) kept.catalogue.catalogue;
       };
-      directory = subst (λ (b : List ℕ). IsUndoDirectory b no_slots) (sym (same 1 (omega (arith, from)))) kept.directory;
       each = λ place t is. table_stays place t is;
       noted = kept.noted;
       owner = kept.owner;
