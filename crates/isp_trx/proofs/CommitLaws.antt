@@ -46,3 +46,6 @@ commits_of pages pages_mid pages_now old mid new slot shape shape_now same call 
       (subst (λ (n : ℕ). Restacks n old new (map ends_of chains) slot chain [] (with_chain (pages_of chain) d.space) []) shape_now
       (subst (λ (c : Contents). Restacks pages_now c new (map ends_of chains) slot chain [] (with_chain (pages_of chain) d.space) []) same done));
 }
+
+pub can_commit_is : (pages : ℕ) (old : Contents) (chains : List Chain) (slot own : ℕ) (chain : Chain) (d : Database) → slot ≡ own → CanCommit pages old chains own chain d → CanCommit pages old chains slot chain d
+can_commit_is pages old chains slot own chain d is can = subst (λ (n : ℕ). CanCommit pages old chains n chain d) (sym is) can

@@ -36,7 +36,7 @@ use Rattle.isp_chained.proofs.HoldLaws.{regrown_holds, table_now}
 use Rattle.isp_chained.proofs.SlotLaws.{stack_of}
 use Rattle.isp_chained.proofs.WrittenLaws.{NewestOf, UndoneFile, in_order, newest_among, slot_newest, undone_file}
 use Rattle.isp_trx.specs.Backs.{CanTake, PutsBack, Takes, TakesAt, fits_in, put_in}
-use Rattle.isp_trx.specs.Writes.{CanUndo, Undid, Undoes}
+use Rattle.isp_trx.specs.Writes.{CanUndo, Undid, UndidIf, Undoes}
 use Rattle.isp_trx.proofs.RowLaws.{found_in_tree, same_slot}
 
 -- ---- the newest old row
@@ -75,7 +75,7 @@ some_after zero some = absurd (omega (arith, some))
 some_after (suc n) some = refl
 
 module _ (pages : ℕ) (old : Contents) (chains : List Chain) (slot : ℕ) (chain : Chain) (image : OldImage) (d : Database) (kept : ChainedFile pages old d chains) (own : slice_get chains slot ≡ Some chain) (last : newest_of chain ≡ Some image) where
-  pub front : List OldImage
+  abbrev pub front : List OldImage
   front = (newest_split (images_of chain) image last).0
 
   pub chain_is : images_of chain ≡ front ++ image ∷ []
@@ -126,22 +126,22 @@ not_absent : (kind : ℕ) → (kind == absent_kind) ≡ false → kind ≡ 0 →
 not_absent kind is same = let at : (kind == absent_kind) ≡ true = grind (arith, nat_tests, same) in let bad : true ≡ false = sym at ∙ is in cc
 
 module _ (pages : ℕ) (old mid : Contents) (chains : List Chain) (slot : ℕ) (chain : Chain) (image : OldImage) (root : ℕ) (d : Database) (can : CanTake pages old chains slot chain image root d) (put : PutsBack pages old root image mid) where
-  n : NewestOf d.images (newer_of slot chains) image (reverse (front pages old chains slot chain image d can.kept can.own can.newest) ++ older_of slot chains)
+  abbrev n : NewestOf d.images (newer_of slot chains) image (reverse (front pages old chains slot chain image d can.kept can.own can.newest) ++ older_of slot chains)
   n = newest pages old chains slot chain image d can.kept can.own can.newest
 
-  f : IsFileImage d.tables (record { image = image; row = n.image.row })
+  abbrev f : IsFileImage d.tables (record { image = image; row = n.image.row })
   f = file_image pages old chains slot chain image d can.kept can.own can.newest
 
-  kept : KeptFile pages old d
+  abbrev kept : KeptFile pages old d
   kept = can.kept.holds.kept
 
-  place : ℕ
+  abbrev place : ℕ
   place = pred image.table
 
-  t : FileTable
+  abbrev t : FileTable
   t = f.table
 
-  x : FileRow
+  abbrev x : FileRow
   x = f.row
 
   own : x.stored.key ≡ image.key
@@ -208,26 +208,26 @@ some_row : (a b : FileRow) → Some a ≡ Some b → a ≡ b
 some_row a b same = cc
 
 module _ (pages : ℕ) (old mid new : Contents) (chains : List Chain) (slot : ℕ) (chain : Chain) (image : OldImage) (root : ℕ) (d : Database) (can : CanTake pages old chains slot chain image root d) (m : Middle pages old mid chains slot chain image root d can) where
-  n : NewestOf d.images (newer_of slot chains) image (reverse (front pages old chains slot chain image d can.kept can.own can.newest) ++ older_of slot chains)
-  n = newest pages old chains slot chain image d can.kept can.own can.newest
+  abbrev l : NewestOf d.images (newer_of slot chains) image (reverse (front pages old chains slot chain image d can.kept can.own can.newest) ++ older_of slot chains)
+  l = newest pages old chains slot chain image d can.kept can.own can.newest
 
-  f : IsFileImage d.tables (record { image = image; row = n.image.row })
-  f = file_image pages old chains slot chain image d can.kept can.own can.newest
+  abbrev e : IsFileImage d.tables (record { image = image; row = l.image.row })
+  e = file_image pages old chains slot chain image d can.kept can.own can.newest
 
-  place : ℕ
-  place = pred image.table
+  abbrev here : ℕ
+  here = pred image.table
 
-  t : FileTable
-  t = f.table
+  abbrev u : FileTable
+  u = e.table
 
-  now : FileTable
-  now = table_now t m.tree (placed row_key image.key (Some m.row) t.rows)
+  abbrev now : FileTable
+  now = table_now u m.tree (placed row_key image.key (Some m.row) u.rows)
 
   -- the chain's entry stands until it is popped
   pub stack : HasStack pages mid (map ends_of chains) slot chain d.space
   stack =
-      let held : Holds pages mid (with_table d place now d.space []) chains = regrown_holds pages old mid d chains place t m.tree (placed row_key image.key (Some m.row) t.rows) 0 d.space.bytes [] can.kept.holds f.is_there m.regrown tt in
-      stack_of pages mid (with_table d place now d.space []) chains slot chain held can.own
+      let held : Holds pages mid (with_table d here now d.space []) chains = regrown_holds pages old mid d chains here u m.tree (placed row_key image.key (Some m.row) u.rows) 0 d.space.bytes [] can.kept.holds e.is_there m.regrown tt in
+      stack_of pages mid (with_table d here now d.space []) chains slot chain held can.own
 
   pub can_pop : CanPop pages mid (map ends_of chains) slot chain d.space
   can_pop = record {
@@ -235,28 +235,28 @@ module _ (pages : ℕ) (old mid new : Contents) (chains : List Chain) (slot : �
     some = let one = ap length (chain_is pages old chains slot chain image d can.kept can.own can.newest) in let both = length-append (front pages old chains slot chain image d can.kept can.own can.newest) (image ∷ []) in omega (arith, one, both);
   }
 
-  back_is : back_of n.image ≡ change_at place image.key (Some m.row)
-  back_is = ap (λ (o : OldImage). back_of (record { image = o; row = n.image.row })) n.image_is ∙ m.back
+  back_is : back_of l.image ≡ change_at here image.key (Some m.row)
+  back_is = ap (λ (o : OldImage). back_of (record { image = o; row = l.image.row })) l.image_is ∙ m.back
 
   pub undid : Restacks pages mid new (map ends_of chains) slot chain (popped chain) (with_chain (gone chain) d.space) [] → Undid pages new chains slot chain d
   undid call =
-      let slots : (y : FileRow) → found row_key image.key t.rows ≡ Some y → slot_of y.stored ≤ slot_of m.row.stored = λ y is. subst (λ (z : FileRow). slot_of z.stored ≤ slot_of m.row.stored) (some_row f.row y (sym f.stands ∙ is)) m.slots in
-      let after : Database = with_table d place now (with_chain (gone chain) d.space) (n.front ++ n.rest) in
-      let u = undone_file pages old mid new d chains slot chain (front pages old chains slot chain image d can.kept can.own can.newest) image place t m.tree image.key m.row 0 d.space.bytes can.kept can.own (chain_is pages old chains slot chain image d can.kept can.own can.newest) n (some_after image.table f.from) refl (is_free pages old chains slot chain image d can.kept can.own can.newest can.disjoint) f.is_there m.regrown m.at slots back_is call in
+      let slots : (y : FileRow) → found row_key image.key u.rows ≡ Some y → slot_of y.stored ≤ slot_of m.row.stored = λ y is. subst (λ (z : FileRow). slot_of z.stored ≤ slot_of m.row.stored) (some_row e.row y (sym e.stands ∙ is)) m.slots in
+      let after : Database = with_table d here now (with_chain (gone chain) d.space) (l.front ++ l.rest) in
+      let done = undone_file pages old mid new d chains slot chain (front pages old chains slot chain image d can.kept can.own can.newest) image here u m.tree image.key m.row 0 d.space.bytes can.kept can.own (chain_is pages old chains slot chain image d can.kept can.own can.newest) l (some_after image.table e.from) refl (is_free pages old chains slot chain image d can.kept can.own can.newest can.disjoint) e.is_there m.regrown m.at slots back_is call in
       record {
         after = after;
-        kept = u.file;
-        newer = n.front;
-        image = n.image;
-        older = n.rest;
-        was = n.is;
+        kept = done.file;
+        newer = l.front;
+        image = l.image;
+        older = l.rest;
+        was = l.is;
         images = refl;
-        newer_are = n.front_are;
-        image_is = can.newest ∙ ap (λ (o : OldImage). Some o) (sym n.image_is);
-        now = exchanged_now pages old d after chains place image.key m.row can.kept.holds m.at u.undoes.exchanges ∙ sym (ap (after_change (tables_of d)) back_is);
-        same = undone_committed pages old d after chains place image.key m.row n.front n.image n.rest can.kept.holds u.undoes;
-        step = undoes place image.key m.row n.front n.image n.rest (record { undoes = u.undoes; gone = gone chain; space = refl });
-        only = subst (λ (o : OldImage). ChangesOnly (pred o.table) o.key d after) (sym n.image_is) (exchanged_only pages old d after place image.key (Some m.row) can.kept.holds.kept m.at u.undoes.exchanges);
+        newer_are = l.front_are;
+        image_is = can.newest ∙ ap (λ (o : OldImage). Some o) (sym l.image_is);
+        now = exchanged_now pages old d after chains here image.key m.row can.kept.holds m.at done.undoes.exchanges ∙ sym (ap (after_change (tables_of d)) back_is);
+        same = undone_committed pages old d after chains here image.key m.row l.front l.image l.rest can.kept.holds done.undoes;
+        step = undoes here image.key m.row l.front l.image l.rest (record { undoes = done.undoes; gone = gone chain; space = refl });
+        only = subst (λ (o : OldImage). ChangesOnly (pred o.table) o.key d after) (sym l.image_is) (exchanged_only pages old d after here image.key (Some m.row) can.kept.holds.kept m.at done.undoes.exchanges);
       }
 
 -- ---- the row fits
@@ -299,30 +299,40 @@ may_pop pages pages_mid old mid chains slot chain image root d shape can put =
 
 -- ---- what is put back, by what the tree's calls say
 
-pub put_none_on : {T E : Type 0} (result : Result T E) (pages pages_now : ℕ) (old new : Contents) (image : OldImage) (root : ℕ) (key : ℤ) → key ≡ image.key → pages_now ≡ pages → (image.kind == absent_kind) ≡ true
+is_absent : (kind : ℕ) → kind ≡ 0 → (kind == absent_kind) ≡ true
+is_absent kind is = ap (λ (n : ℕ). n == absent_kind) is
+
+is_there : (kind : ℕ) → (kind ≡ 0 → ⊥) → (kind == absent_kind) ≡ false
+is_there kind some = by (kind == absent_kind) refl
+  where
+    by : (b : Bool) → (kind == absent_kind) ≡ b → (kind == absent_kind) ≡ false
+    by true is = absurd (some (absent kind is))
+    by false is = is
+
+pub put_none_on : {T E : Type 0} (result : Result T E) (pages pages_now : ℕ) (old new : Contents) (image : OldImage) (root : ℕ) (key : ℤ) → key ≡ image.key → pages_now ≡ pages → image.kind ≡ 0
     → ((table : ℕ) (tree : Tree) → IsTree pages old table root tree → OnOk result (IsEdited pages_now old new table root tree (marked_at key))) → OnOk result (PutsBack pages old root image new)
 put_none_on (Ok x) pages pages_now old new image root key key_is shape none call = record {
-  makes = λ table tree is. subst (λ (b : Bool). IsEdited pages old new table root tree (if b then marked_at image.key else with_row image.key image.row (image.kind == marked_kind))) (sym none)
+  makes = λ table tree is. subst (λ (b : Bool). IsEdited pages old new table root tree (if b then marked_at image.key else with_row image.key image.row (image.kind == marked_kind))) (sym (is_absent image.kind none))
   (subst (λ (k : ℤ). IsEdited pages old new table root tree (marked_at k)) key_is (subst (λ (n : ℕ). IsEdited n old new table root tree (marked_at key)) shape (call table tree is)));
 }
 put_none_on (Err e) pages pages_now old new image root key key_is shape none call = tt
 
-pub put_row_on : {T E : Type 0} (result : Result T E) (pages pages_now : ℕ) (old new : Contents) (image : OldImage) (root : ℕ) (key : ℤ) (bytes : List ℕ) → key ≡ image.key → bytes ≡ image.row → pages_now ≡ pages → (image.kind == absent_kind) ≡ false
+pub put_row_on : {T E : Type 0} (result : Result T E) (pages pages_now : ℕ) (old new : Contents) (image : OldImage) (root : ℕ) (key : ℤ) (bytes : List ℕ) → key ≡ image.key → bytes ≡ image.row → pages_now ≡ pages → (image.kind ≡ 0 → ⊥)
     → ((table : ℕ) (tree : Tree) → IsTree pages old table root tree → OnOk result (IsEdited pages_now old new table root tree (with_row key bytes (image.kind == marked_kind)))) → OnOk result (PutsBack pages old root image new)
 put_row_on (Ok x) pages pages_now old new image root key bytes key_is bytes_are shape some call = record {
-  makes = λ table tree is. subst (λ (b : Bool). IsEdited pages old new table root tree (if b then marked_at image.key else with_row image.key image.row (image.kind == marked_kind))) (sym some)
+  makes = λ table tree is. subst (λ (b : Bool). IsEdited pages old new table root tree (if b then marked_at image.key else with_row image.key image.row (image.kind == marked_kind))) (sym (is_there image.kind some))
   (subst (λ (k : ℤ). IsEdited pages old new table root tree (with_row k image.row (image.kind == marked_kind))) key_is
   (subst (λ (row : List ℕ). IsEdited pages old new table root tree (with_row key row (image.kind == marked_kind))) bytes_are
   (subst (λ (n : ℕ). IsEdited n old new table root tree (with_row key bytes (image.kind == marked_kind))) shape (call table tree is))));
 }
 put_row_on (Err e) pages pages_now old new image root key bytes key_is bytes_are shape some call = tt
 
-pub none_fits : (image : OldImage) (tree : Tree) (key : ℤ) → key ≡ image.key → (image.kind == absent_kind) ≡ true → fits_in image tree ≡ true → has key tree ≡ true
-none_fits image tree key key_is none fits = ap (λ (k : ℤ). has k tree) key_is ∙ sym (ap (λ (b : Bool). if b then has image.key tree else holds image.key (length image.row) tree) none) ∙ fits
+pub none_fits : (image : OldImage) (tree : Tree) (key : ℤ) → key ≡ image.key → image.kind ≡ 0 → fits_in image tree ≡ true → has key tree ≡ true
+none_fits image tree key key_is none fits = ap (λ (k : ℤ). has k tree) key_is ∙ sym (ap (λ (b : Bool). if b then has image.key tree else holds image.key (length image.row) tree) (is_absent image.kind none)) ∙ fits
 
-pub row_fits : (image : OldImage) (tree : Tree) (key : ℤ) (bytes : List ℕ) → key ≡ image.key → bytes ≡ image.row → (image.kind == absent_kind) ≡ false → fits_in image tree ≡ true → holds key (length bytes) tree ≡ true
+pub row_fits : (image : OldImage) (tree : Tree) (key : ℤ) (bytes : List ℕ) → key ≡ image.key → bytes ≡ image.row → (image.kind ≡ 0 → ⊥) → fits_in image tree ≡ true → holds key (length bytes) tree ≡ true
 row_fits image tree key bytes key_is bytes_are some fits =
-    (λ i. holds (key_is i) (length (bytes_are i)) tree) ∙ sym (ap (λ (b : Bool). if b then has image.key tree else holds image.key (length image.row) tree) some) ∙ fits
+    (λ i. holds (key_is i) (length (bytes_are i)) tree) ∙ sym (ap (λ (b : Bool). if b then has image.key tree else holds image.key (length image.row) tree) (is_there image.kind some)) ∙ fits
 
 -- ---- on the tree of its table
 
@@ -386,6 +396,19 @@ undoes_on (Err e) pages pages_now old mid new slot image count roots shape same 
 
 -- ---- how many there are
 
-pub count_some : (n : ℕ) → (n == 0) ≡ false → suc (pred n) ≡ n
-count_some zero is = cc
-count_some (suc n) is = refl
+-- none is left
+pub undoes_none : (pages : ℕ) (contents : Contents) (slot count : ℕ) (roots : List ℕ) → count ≡ 0 → Undoes pages contents slot count roots contents
+undoes_none pages contents slot count roots is = record { makes = λ chains chain d can. subst (λ (n : ℕ). UndidIf pages contents contents chains slot chain n d) (sym is) refl }
+
+pub count_some : (count : ℕ) → (count ≡ 0 → ⊥) → suc (pred count) ≡ count
+count_some zero some = absurd (some refl)
+count_some (suc count) some = refl
+
+-- the same slot and the same count
+pub undoes_is : (pages : ℕ) (old new : Contents) (slot own some count : ℕ) (roots : List ℕ) → slot ≡ own → some ≡ count → Undoes pages old slot some roots new → Undoes pages old own count roots new
+undoes_is pages old new slot own some count roots slot_is count_is done =
+    subst (λ (n : ℕ). Undoes pages old own n roots new) count_is (subst (λ (n : ℕ). Undoes pages old n some roots new) slot_is done)
+
+pub can_undo_is : (pages : ℕ) (old : Contents) (chains : List Chain) (slot own : ℕ) (chain : Chain) (some count : ℕ) (roots : List ℕ) (d : Database) → slot ≡ own → some ≡ count → CanUndo pages old chains own chain count roots d → CanUndo pages old chains slot chain some roots d
+can_undo_is pages old chains slot own chain some count roots d slot_is count_is can =
+    subst (λ (n : ℕ). CanUndo pages old chains slot chain n roots d) (sym count_is) (subst (λ (n : ℕ). CanUndo pages old chains n chain count roots d) (sym slot_is) can)

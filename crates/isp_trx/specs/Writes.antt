@@ -1,5 +1,5 @@
 -- What the calls of a transaction make of the database that the contents are, and of the tables that are committed.
-use Rattle.std.specs.Prelude.{◌≡◌, ℕ, suc, pred, ◌≤◌, ℤ, Bool, true, false, nat_lt, List, [], ◌∷◌, ◌++◌, length, map, reverse, slice_get, slice_set, take, Option, Some, None, if◌then◌else◌}
+use Rattle.std.specs.Prelude.{◌≡◌, ℕ, zero, suc, pred, ◌≤◌, ℤ, Bool, true, false, nat_lt, List, [], ◌∷◌, ◌++◌, length, map, reverse, slice_get, slice_set, take, Option, Some, None, if◌then◌else◌}
 use Rattle.std.specs.List.{AllByRecursion, list_any}
 use Rattle.std.specs.Option.{option_map}
 use Rattle.isp_clustered.specs.Cells.{kept_of}
@@ -119,7 +119,7 @@ pub record Undid (pages : ℕ) (contents : Contents) (chains : List Chain) (slot
   pub only : ChangesOnly (pred image.image.table) image.image.key d after
 
 abbrev pub UndidIf : ℕ → Contents → Contents → List Chain → ℕ → Chain → ℕ → Database → Type 0
-UndidIf pages old new chains slot chain 0 d = new ≡ old
+UndidIf pages old new chains slot chain zero d = new ≡ old
 UndidIf pages old new chains slot chain (suc count) d = Undid pages new chains slot chain d
 
 pub record Undoes (pages : ℕ) (old : Contents) (slot : ℕ) (count : ℕ) (roots : List ℕ) (new : Contents) : Type 0 where
