@@ -1,4 +1,5 @@
 pub mod Laws
+pub mod Noting
 pub mod Order
 pub mod Roots
 pub mod Trxs
