@@ -15,11 +15,12 @@ use Rattle.isp_image.specs.Courses.{Exchanges, change_at, names, stood, stood_at
 use Rattle.isp_image.specs.Databases.{Database, FileImage, FileRow, FileTable, back_of, committed, image_of, put_back, row_key, table_of, tables_of}
 use Rattle.isp_image.specs.Files.{IsFileImage}
 use Rattle.isp_image.specs.Keyed.{IsBelowEach, RisesBy, found}
-use Rattle.isp_image.proofs.FileLaws.{table_rises}
-use Rattle.isp_image.proofs.SeenLaws.{Entry, back_is, entry_key, exchanged_is, goes_back, shown_rises}
+use Rattle.isp_image.proofs.FileLaws.{rises_in}
+use Rattle.isp_image.proofs.SeenLaws.{Entry, back_is, entry_key, goes_back, shown_rises}
+use Rattle.isp_image.proofs.StepLaws.{exchanged_now as row_exchanged}
 use Rattle.isp_undo.specs.Chains.{Chain}
 use Rattle.isp_chained.specs.Chained.{Holds}
-use Rattle.isp_chained.specs.Laws.{Finishing}
+use Rattle.isp_chained.specs.Laws.{Finishing, UnnamedIsCommitted}
 use Rattle.isp_chained.specs.Steps.{FinishesAmong, IsUnnamed, NotesAmong, UndoesAmong}
 use Rattle.isp_chained.proofs.SwapLaws.{all_apart, back_among, back_append, image_other, there_is}
 
@@ -37,18 +38,14 @@ all_mapped : (P : Table → Type 0) (tables : List FileTable) → ((place : ℕ)
 all_mapped P [] each = tt
 all_mapped P (t ∷ tables) each = (each 0 t refl, all_mapped P tables (λ place u got. each (suc place) u got))
 
-pub rises_in : (pages : ℕ) (contents : Contents) (db : Database) (chains : List Chain) (place : ℕ) (t : FileTable) → Holds pages contents db chains → slice_get db.tables place ≡ Some t → RisesBy row_key t.rows
-rises_in pages contents db chains place t was got = table_rises pages contents (suc place) t (was.each place t got)
-
 pub tables_rise : (pages : ℕ) (contents : Contents) (db : Database) (chains : List Chain) → Holds pages contents db chains → AreRisingTables (tables_of db)
-tables_rise pages contents db chains was = all_mapped (λ table. AreRising table.rows) db.tables (λ place t got. rising_of _ (shown_rises t.rows (rises_in pages contents db chains place t was got)))
+tables_rise pages contents db chains was = all_mapped (λ table. AreRising table.rows) db.tables (λ place t got. rising_of _ (shown_rises t.rows (rises_in pages contents db place t was.kept got)))
 
 -- ---- one row is exchanged
 
 pub exchanged_now : (pages : ℕ) (contents : Contents) (old new : Database) (chains : List Chain) (place : ℕ) (key : ℤ) (row : FileRow) → Holds pages contents old chains → row.stored.key ≡ key → Exchanges place key (Some row) old new
     → tables_of new ≡ after_change (tables_of old) (change_at place key (Some row))
-exchanged_now pages contents old new chains place key row was at is =
-    ap (map table_of) is.tables ∙ sym (exchanged_is old.tables place key (Some row) is.table is.tree is.is_there at (rises_in pages contents old chains place is.table was is.is_there))
+exchanged_now pages contents old new chains place key row was at is = row_exchanged pages contents old new place key (Some row) was.kept at is
 
 all_front : {X : Type 0} (P : X → Type 0) (xs ys : List X) → AllByRecursion P (xs ++ ys) → AllByRecursion P xs
 all_front P [] ys all = tt
@@ -74,14 +71,14 @@ noted_committed pages contents old new chains place key row newer older was is =
     let rise = tables_rise pages contents old chains was in
     let now = exchanged_now pages contents old new chains place key row was is.at e in
     let rise_now : AreRisingTables (tables_of new) = subst (λ (tables : List Table). AreRisingTables tables) (sym now) (change_rises (tables_of old) (change_at place key (Some row)) rise) in
-    let from = from_one old.tables newer (all_front (IsFileImage old.tables) newer older (subst (λ (images : List FileImage). AllByRecursion (IsFileImage old.tables) images) is.was was.noted)) in
+    let from = from_one old.tables newer (all_front (IsFileImage old.tables) newer older (subst (λ (images : List FileImage). AllByRecursion (IsFileImage old.tables) images) is.was was.kept.noted)) in
     let at = image_place place key (stood_at place key old) in
     let apart = all_apart place key newer (back_of image) from at.0 at.1 is.free in
     let stands : stood_at place key old ≡ found row_key key e.table.rows = ap (stood key) e.is_there in
     let back : back_of image ≡ change_at place key (found row_key key e.table.rows) = back_is place key (stood_at place key old) ∙ ap (change_at place key) stands in
     let goes : after_change (tables_of new) (back_of image) ≡ tables_of old =
     (λ i. after_change (map table_of (e.tables i)) (back i))
-    ∙ goes_back old.tables place key (Some row) e.table e.tree e.is_there is.at (rises_in pages contents old chains place e.table was e.is_there) in
+    ∙ goes_back old.tables place key (Some row) e.table e.tree e.is_there is.at (rises_in pages contents old place e.table was.kept e.is_there) in
     ap (λ (images : List FileImage). put_back images (tables_of new)) is.noted
     ∙ back_among (tables_of new) newer image older rise_now apart
     ∙ ap (put_back (newer ++ older)) goes
@@ -91,7 +88,7 @@ pub undone_committed : (pages : ℕ) (contents : Contents) (old new : Database) 
 undone_committed pages contents old new chains place key row newer image older was is =
     let rise = tables_rise pages contents old chains was in
     let now = exchanged_now pages contents old new chains place key row was is.at is.exchanges in
-    let from = from_one old.tables newer (all_front (IsFileImage old.tables) newer (image ∷ older) (subst (λ (images : List FileImage). AllByRecursion (IsFileImage old.tables) images) is.was was.noted)) in
+    let from = from_one old.tables newer (all_front (IsFileImage old.tables) newer (image ∷ older) (subst (λ (images : List FileImage). AllByRecursion (IsFileImage old.tables) images) is.was was.kept.noted)) in
     let apart = all_apart place key newer (back_of image) from (ap (λ (c : RowChange). c.table) is.back) (ap (λ (c : RowChange). c.key) is.back) is.free in
     ap (λ (images : List FileImage). put_back images (tables_of new)) is.noted
     ∙ ap (put_back (newer ++ older)) (now ∙ sym (ap (after_change (tables_of old)) is.back))
@@ -122,6 +119,10 @@ unnamed_row tables (i ∷ images) place key rise from free =
     neither true b bad = cc
     neither false b is = (refl, is)
 
+pub unnamed_committed : UnnamedIsCommitted
+unnamed_committed pages contents db chains place key was free =
+    unnamed_row (tables_of db) db.images place key (tables_rise pages contents db chains was) (from_one db.tables db.images was.kept.noted) free
+
 -- the same old rows on tables with the same row there
 same_row : (tables others : List Table) (images : List FileImage) (place : ℕ) (key : ℤ) → AreRisingTables tables → AreRisingTables others → map definition_of tables ≡ map definition_of others → row_in tables place key ≡ row_in others place key → row_in (put_back images tables) place key ≡ row_in (put_back images others) place key
 same_row tables others [] place key rise rise_other defined same = same
@@ -150,7 +151,7 @@ finished_rows pages contents old new chains newer mine older was is = record {
     now = ap (map table_of) is.tables
 
     from : AllByRecursion (λ (i : FileImage). 1 ≤ i.image.table) (newer ++ (mine ++ older))
-    from = from_one old.tables (newer ++ (mine ++ older)) (subst (λ (images : List FileImage). AllByRecursion (IsFileImage old.tables) images) is.was was.noted)
+    from = from_one old.tables (newer ++ (mine ++ older)) (subst (λ (images : List FileImage). AllByRecursion (IsFileImage old.tables) images) is.was was.kept.noted)
 
     after : committed new ≡ put_back (newer ++ older) (tables_of old)
     after = λ i. put_back (is.noted i) (now i)

@@ -51,7 +51,7 @@ turned one other out = by (are_of_one other one) refl
 
 -- ---- one slot's old rows are others
 
-disjoint_set : (chains : List Chain) (slot : ℕ) (chain after : Chain) → AreDisjoint chains → slice_get chains slot ≡ Some chain
+pub disjoint_set : (chains : List Chain) (slot : ℕ) (chain after : Chain) → AreDisjoint chains → slice_get chains slot ≡ Some chain
     → ((other : ℕ) (more : Chain) → slot ≢ other → slice_get chains other ≡ Some more → AreApart (images_of after) (images_of more) × AreApart (images_of more) (images_of after)) → AreDisjoint (slice_set chains slot after)
 disjoint_set chains slot chain after was is each a b c d differ got_a got_b = by (slot == a) (slot == b) refl refl
   where
@@ -129,7 +129,7 @@ popping_disjoint chains slot chain after was is images = disjoint_set chains slo
 
 -- ---- none
 
-apart_none : (ys : List OldImage) → AreApart ys []
+pub apart_none : (ys : List OldImage) → AreApart ys []
 apart_none [] = tt
 apart_none (y ∷ ys) = (refl, apart_none ys)
 

@@ -1,6 +1,9 @@
+pub mod AloneLaws
+pub mod CourseLaws
 pub mod DatabaseLaws
 pub mod DisjointLaws
 pub mod HoldLaws
+pub mod LocalLaws
 pub mod OrderLaws
 pub mod OwnerLaws
 pub mod PlainLaws

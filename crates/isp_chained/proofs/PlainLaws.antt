@@ -5,11 +5,11 @@ use Rattle.std.proofs.lemmas.Bool.Decides.{nat_tests}
 use Rattle.isp_format.specs.Ranges.{Contents, page_of}
 use Rattle.isp_format.specs.Undo.{IsUndoDirectory, OldImage, Slot as Ends}
 use Rattle.isp_image.specs.Databases.{FileImage, put_back, tables_of}
-use Rattle.isp_image.specs.Files.{Owner, is_known, is_owner, no_slots, nobody, of_free, of_slot, of_table}
+use Rattle.isp_image.specs.Files.{Owner, is_known, is_owner, nobody, of_free, of_slot, of_table}
 use Rattle.isp_image.proofs.ListLaws.{counted}
 use Rattle.isp_base.specs.Lists.{times}
 use Rattle.isp_undo.specs.Chains.{Chain, IsUndoChain, ends_of, pages_of}
-use Rattle.isp_chained.specs.Chained.{images_in, is_held, no_chains}
+use Rattle.isp_chained.specs.Chained.{images_in, no_chains, no_slots, old_of}
 use Rattle.isp_chained.specs.Laws.{ChainedIsPlain, PlainIsChained, PlainStands}
 
 slots_are : map ends_of no_chains ≡ no_slots
@@ -21,7 +21,7 @@ copies zero x y k is = cc
 copies (suc n) x y zero is = let same : Some x ≡ Some y = is in cc
 copies (suc n) x y (suc k) is = copies n x y k is
 
-none_of : (slot : ℕ) (chain : Chain) → slice_get no_chains slot ≡ Some chain → chain ≡ []
+pub none_of : (slot : ℕ) (chain : Chain) → slice_get no_chains slot ≡ Some chain → chain ≡ []
 unfolding no_chains
 none_of slot chain is = copies 32 [] chain slot is
 
@@ -30,11 +30,11 @@ there_at zero x k less = absurd (omega (arith, less))
 there_at (suc n) x zero less = refl
 there_at (suc n) x (suc k) less = there_at n x k (omega (arith, less))
 
-slot_there : (slot : ℕ) → slot < 32 → slice_get no_chains slot ≡ Some []
+pub slot_there : (slot : ℕ) → slot < 32 → slice_get no_chains slot ≡ Some []
 unfolding no_chains
 slot_there slot less = there_at 32 [] slot less
 
-no_images : (n : ℕ) → images_in (replicate n []) ≡ []
+pub no_images : (n : ℕ) → images_in (replicate n []) ≡ []
 no_images zero = refl
 no_images (suc n) = ap (λ (images : List OldImage). images ++ reverse []) (no_images n)
 
@@ -48,21 +48,15 @@ empty_chain pages contents = record { linked = tt; inside = λ k d h. absurd (om
 pub plain_chained : PlainIsChained
 plain_chained pages contents db is = record {
   holds = record {
-    catalogue = is.kept.catalogue;
-    directory = subst (λ (slots : List Ends). IsUndoDirectory (page_of contents 1) slots) (sym slots_are) is.kept.directory;
-    each = is.kept.each;
+    kept = is.kept;
+    directory = subst (λ (slots : List Ends). IsUndoDirectory (page_of contents 1) slots) (sym slots_are) is.directory;
     stands = λ slot chain got. subst (λ (c : Chain). IsUndoChain pages contents c) (sym (none_of slot chain got)) (empty_chain pages contents);
-    noted = is.kept.noted;
-    owner = is.kept.owner;
-    shared = is.kept.shared;
-    trees = is.kept.trees;
     stacks = λ slot chain got page. (ap (λ (c : Chain). times page (pages_of c)) (none_of slot chain got) ∙ sym (ap counted (is.slots slot page)));
-    held = is.held;
   };
-  noted = ap (map (λ (i : FileImage). i.image)) is.none ∙ sym none_noted;
+  noted = ap (map old_of) is.none ∙ sym none_noted;
 }
 
-no_more : (images : List FileImage) → map (λ (i : FileImage). i.image) images ≡ [] → images ≡ []
+no_more : (images : List FileImage) → map old_of images ≡ [] → images ≡ []
 no_more [] is = refl
 no_more (i ∷ images) is = cc
 
@@ -70,39 +64,23 @@ none_counted : (b : Bool) → 0 ≡ counted b → b ≡ false
 none_counted true is = absurd (omega (arith, is))
 none_counted false is = refl
 
-far_slot : (n tables : ℕ) (w : Owner) → 32 ≤ n → is_held tables w ≡ true → is_owner (of_slot n) w ≡ false
-far_slot n tables nobody far held = refl
-far_slot n tables of_free far held = refl
-far_slot n tables (of_table k) far held = refl
-far_slot n tables (of_slot k) far held = grind (arith, nat_tests, held, far)
-
--- an owner that is there and no slot is one that a kept file has
-known_owner : (tables : ℕ) (w : Owner) → is_held tables w ≡ true → ((slot : ℕ) → is_owner (of_slot slot) w ≡ false) → is_known tables w ≡ true
-known_owner tables nobody held none = refl
-known_owner tables of_free held none = refl
-known_owner tables (of_table n) held none = held
-known_owner tables (of_slot n) held none = let not : (n == n) ≡ false = none n in grind (arith, nat_tests, not)
+far_slot : (n tables : ℕ) (w : Owner) → 32 ≤ n → is_known tables w ≡ true → is_owner (of_slot n) w ≡ false
+far_slot n tables nobody far known = refl
+far_slot n tables of_free far known = refl
+far_slot n tables (of_table k) far known = refl
+far_slot n tables (of_slot k) far known = grind (arith, nat_tests, known, far)
 
 pub chained_plain : ChainedIsPlain
 chained_plain pages contents db is = record {
-  kept = record {
-    catalogue = is.holds.catalogue;
-    directory = subst (λ (slots : List Ends). IsUndoDirectory (page_of contents 1) slots) slots_are is.holds.directory;
-    each = is.holds.each;
-    noted = is.holds.noted;
-    owner = is.holds.owner;
-    shared = is.holds.shared;
-    trees = is.holds.trees;
-    known = λ page. known_owner (length db.tables) (is.holds.owner page) (is.holds.held page) (λ slot. by slot page (nat_lt slot 32) refl);
-  };
+  kept = is.holds.kept;
+  directory = subst (λ (slots : List Ends). IsUndoDirectory (page_of contents 1) slots) slots_are is.holds.directory;
   none = no_more db.images (is.noted ∙ none_noted);
-  held = is.holds.held;
   slots = λ slot page. by slot page (nat_lt slot 32) refl;
 }
   where
-    by : (slot page : ℕ) (b : Bool) → nat_lt slot 32 ≡ b → is_owner (of_slot slot) (is.holds.owner page) ≡ false
-    by slot page true less = none_counted (is_owner (of_slot slot) (is.holds.owner page)) (is.holds.stacks slot [] (slot_there slot (grind (arith, nat_tests, less))) page)
-    by slot page false far = far_slot slot (length db.tables) (is.holds.owner page) (grind (arith, nat_tests, far)) (is.holds.held page)
+    by : (slot page : ℕ) (b : Bool) → nat_lt slot 32 ≡ b → is_owner (of_slot slot) (is.holds.kept.owner page) ≡ false
+    by slot page true less = none_counted (is_owner (of_slot slot) (is.holds.kept.owner page)) (is.holds.stacks slot [] (slot_there slot (grind (arith, nat_tests, less))) page)
+    by slot page false far = far_slot slot (length db.tables) (is.holds.kept.owner page) (grind (arith, nat_tests, far)) (is.holds.kept.known page)
 
 pub plain_stands : PlainStands
 plain_stands pages contents db is = record {

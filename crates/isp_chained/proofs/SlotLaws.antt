@@ -11,7 +11,7 @@ use Rattle.isp_space.specs.Giving.{with_chain}
 use Rattle.isp_space.specs.Spaces.{Space, next_free, taken}
 use Rattle.isp_clustered.specs.Trees.{pages_of as tree_pages}
 use Rattle.isp_image.specs.Databases.{Database, FileTable}
-use Rattle.isp_image.specs.Files.{Owner, Owns, OwnsSpace, is_owner, nobody, of_free, of_slot, of_table}
+use Rattle.isp_image.specs.Files.{Owner, Owns, OwnsSpace, is_known, is_owner, nobody, of_free, of_slot, of_table}
 use Rattle.isp_format.specs.Doublewrite.{AreDistinct}
 use Rattle.isp_image.proofs.ListLaws.{all_of, counted, map_set, page_itself}
 use Rattle.isp_image.proofs.OwnerLaws.{given, has_owner}
@@ -21,7 +21,7 @@ use Rattle.isp_undo_walks.proofs.LinkLaws.{pages_all}
 use Rattle.isp_undo_walks.proofs.PageLaws.{both_out, other_page}
 use Rattle.isp_undo.proofs.PushLaws.{from_of}
 use Rattle.isp_undo.proofs.StackLaws.{popped_pages, pushed_pages}
-use Rattle.isp_chained.specs.Chained.{Holds, is_held}
+use Rattle.isp_chained.specs.Chained.{Holds}
 use Rattle.isp_chained.specs.Laws.{with_space}
 use Rattle.isp_chained.proofs.HoldLaws.{get_below, Spares, restacked_holds}
 use Rattle.isp_chained.proofs.OwnerLaws.{among_times, back_shared, back_shrinks, back_stays, free_slot, free_table, given_back, given_grows, given_stays, next_other, slot_free, slot_is, slot_table, slot_taken, slots_differ}
@@ -78,7 +78,7 @@ pub pushed_holds : (pages : ℕ) (old new : Contents) (db : Database) (chains : 
     → Holds pages new (with_space db (space_after image chain db.space)) (slice_set chains slot (pushed (next_free db.space) image chain))
 pushed_holds pages old new db chains slot chain image was is call =
     let after : Chain = pushed (next_free db.space) image chain in
-    let owner : ℕ → Owner = owner_after (takes_page image chain) slot (next_free db.space) was.owner in
+    let owner : ℕ → Owner = owner_after (takes_page image chain) slot (next_free db.space) was.kept.owner in
     let pages_are : pages_of after ≡ pages_of chain ++ page_taken image chain db.space = pushed_pages (next_free db.space) image chain in
     let shared = shared_by (takes_page image chain) in
     let mine : Owns owner (of_slot slot) (pages_of chain ++ page_taken image chain db.space) = mine_by (takes_page image chain) in
@@ -94,41 +94,41 @@ pushed_holds pages old new db chains slot chain image was is call =
       trees = λ place t got. trees_by (takes_page image chain) place t got;
       own = subst (λ (xs : List ℕ). Owns owner (of_slot slot) xs) (sym pages_are) mine;
       others = λ n c differ got. others_by (takes_page image chain) n c differ got;
-      held = λ page. held_by (takes_page image chain) page;
+      known = λ page. known_by (takes_page image chain) page;
     })
   where
     from : 16 ≤ db.space.fresh
-    from = was.catalogue.space_is.fresh_from
+    from = was.kept.catalogue.space_is.fresh_from
 
-    shared_by : (b : Bool) → OwnsSpace (owner_after b slot (next_free db.space) was.owner) (if b then taken db.space else db.space)
-    shared_by true = slot_taken was.owner slot db.space was.shared from
-    shared_by false = was.shared
+    shared_by : (b : Bool) → OwnsSpace (owner_after b slot (next_free db.space) was.kept.owner) (if b then taken db.space else db.space)
+    shared_by true = slot_taken was.kept.owner slot db.space was.kept.shared from
+    shared_by false = was.kept.shared
 
-    mine_by : (b : Bool) → Owns (owner_after b slot (next_free db.space) was.owner) (of_slot slot) (pages_of chain ++ (if b then next_free db.space ∷ [] else []))
-    mine_by true = given_grows was.owner (of_slot slot) (next_free db.space) (pages_of chain) (slot_is slot) (next_other was.owner (of_slot slot) db.space (free_slot slot) refl was.shared) (was.stacks slot chain is)
-    mine_by false = subst (λ (xs : List ℕ). Owns was.owner (of_slot slot) xs) (sym (append-nil (pages_of chain))) (was.stacks slot chain is)
+    mine_by : (b : Bool) → Owns (owner_after b slot (next_free db.space) was.kept.owner) (of_slot slot) (pages_of chain ++ (if b then next_free db.space ∷ [] else []))
+    mine_by true = given_grows was.kept.owner (of_slot slot) (next_free db.space) (pages_of chain) (slot_is slot) (next_other was.kept.owner (of_slot slot) db.space (free_slot slot) refl was.kept.shared) (was.stacks slot chain is)
+    mine_by false = subst (λ (xs : List ℕ). Owns was.kept.owner (of_slot slot) xs) (sym (append-nil (pages_of chain))) (was.stacks slot chain is)
 
     few : slot < 32
     few = let less = get_below chains slot chain is in let long = was.directory.count in let same = length-map chains ends_of in omega (arith, less, long, same)
 
-    held_by : (b : Bool) (page : ℕ) → is_held (length db.tables) (owner_after b slot (next_free db.space) was.owner page) ≡ true
-    held_by true page = by (next_free db.space == page)
+    known_by : (b : Bool) (page : ℕ) → is_known (length db.tables) (owner_after b slot (next_free db.space) was.kept.owner page) ≡ true
+    known_by true page = by (next_free db.space == page)
       where
-        by : (b : Bool) → is_held (length db.tables) (if b then of_slot slot else was.owner page) ≡ true
+        by : (b : Bool) → is_known (length db.tables) (if b then of_slot slot else was.kept.owner page) ≡ true
         by true = grind (arith, nat_tests, few)
-        by false = was.held page
-    held_by false page = was.held page
+        by false = was.kept.known page
+    known_by false page = was.kept.known page
 
     tables_by : (b : Bool) → ◌≡◌ {A = ℕ} ((if b then taken db.space else db.space).tables) db.space.tables
     tables_by true = refl
     tables_by false = refl
 
-    trees_by : (b : Bool) (place : ℕ) (t : FileTable) → slice_get db.tables place ≡ Some t → Owns (owner_after b slot (next_free db.space) was.owner) (of_table (suc place)) (tree_pages t.tree)
-    trees_by true place t got = given_stays was.owner (of_slot slot) (of_table (suc place)) (next_free db.space) (tree_pages t.tree) refl (next_other was.owner (of_table (suc place)) db.space (free_table (suc place)) refl was.shared) (was.trees place t got)
-    trees_by false place t got = was.trees place t got
+    trees_by : (b : Bool) (place : ℕ) (t : FileTable) → slice_get db.tables place ≡ Some t → Owns (owner_after b slot (next_free db.space) was.kept.owner) (of_table (suc place)) (tree_pages t.tree)
+    trees_by true place t got = given_stays was.kept.owner (of_slot slot) (of_table (suc place)) (next_free db.space) (tree_pages t.tree) refl (next_other was.kept.owner (of_table (suc place)) db.space (free_table (suc place)) refl was.kept.shared) (was.kept.trees place t got)
+    trees_by false place t got = was.kept.trees place t got
 
-    others_by : (b : Bool) (n : ℕ) (c : Chain) → (slot ≡ n → ⊥) → slice_get chains n ≡ Some c → Owns (owner_after b slot (next_free db.space) was.owner) (of_slot n) (pages_of c)
-    others_by true n c differ got = given_stays was.owner (of_slot slot) (of_slot n) (next_free db.space) (pages_of c) (slots_differ slot n differ (of_slot slot) (slot_is slot)) (next_other was.owner (of_slot n) db.space (free_slot n) refl was.shared) (was.stacks n c got)
+    others_by : (b : Bool) (n : ℕ) (c : Chain) → (slot ≡ n → ⊥) → slice_get chains n ≡ Some c → Owns (owner_after b slot (next_free db.space) was.kept.owner) (of_slot n) (pages_of c)
+    others_by true n c differ got = given_stays was.kept.owner (of_slot slot) (of_slot n) (next_free db.space) (pages_of c) (slots_differ slot n differ (of_slot slot) (slot_is slot)) (next_other was.kept.owner (of_slot n) db.space (free_slot n) refl was.kept.shared) (was.stacks n c got)
     others_by false n c differ got = was.stacks n c got
 
 -- ---- pages are given back
@@ -136,9 +136,9 @@ pushed_holds pages old new db chains slot chain image was is call =
 pub given_holds : (pages : ℕ) (old new : Contents) (db : Database) (chains : List Chain) (slot : ℕ) (chain after : Chain) (back : List ℕ) → Holds pages old db chains → slice_get chains slot ≡ Some chain → pages_of after ++ back ≡ pages_of chain
     → Restacks pages old new (map ends_of chains) slot chain after (with_chain back db.space) [] → Holds pages new (with_space db (with_chain back db.space)) (slice_set chains slot after)
 given_holds pages old new db chains slot chain after back was is parts call =
-    let mine : Owns was.owner (of_slot slot) (pages_of after ++ back) = subst (λ (xs : List ℕ). Owns was.owner (of_slot slot) xs) (sym parts) (was.stacks slot chain is) in
-    let owner : ℕ → Owner = given_back back was.owner in
-    let shared = back_shared was.owner slot (pages_of after) back db.space mine was.shared in
+    let mine : Owns was.kept.owner (of_slot slot) (pages_of after ++ back) = subst (λ (xs : List ℕ). Owns was.kept.owner (of_slot slot) xs) (sym parts) (was.stacks slot chain is) in
+    let owner : ℕ → Owner = given_back back was.kept.owner in
+    let shared = back_shared was.kept.owner slot (pages_of after) back db.space mine was.kept.shared in
     restacked_holds pages old new db chains slot chain after (with_chain back db.space) owner (0 ∷ 1 ∷ (pages_of chain ++ [])) was (record {
       is_there = is;
       directory = directory_is (page_of new 1) chains slot after call.stack.stack.directory;
@@ -147,20 +147,20 @@ given_holds pages old new db chains slot chain after back was is parts call =
       tables = refl;
       keeps = call.others;
       spares = spares_of owner slot (with_chain back db.space) (pages_of chain ++ []) shared (subst (λ (xs : List ℕ). All (λ x. 16 ≤ x) xs) (sym (append-nil (pages_of chain))) (from_of pages old chain (was.stands slot chain is)))
-          (λ page there. apart_by page (is_among page back) (mine_apart was.owner slot (pages_of chain) (was.stacks slot chain is) page (subst (λ (xs : List ℕ). is_among page xs ≡ true) (append-nil (pages_of chain)) there)));
+          (λ page there. apart_by page (is_among page back) (mine_apart was.kept.owner slot (pages_of chain) (was.stacks slot chain is) page (subst (λ (xs : List ℕ). is_among page xs ≡ true) (append-nil (pages_of chain)) there)));
       shared = shared;
-      trees = λ place t got. back_stays was.owner slot (pages_of after) back (of_table (suc place)) (tree_pages t.tree) refl (slot_table slot (suc place)) mine (was.trees place t got);
-      own = back_shrinks was.owner slot (pages_of after) back mine;
-      others = λ n c differ got. back_stays was.owner slot (pages_of after) back (of_slot n) (pages_of c) refl (slots_differ slot n differ) mine (was.stacks n c got);
-      held = λ page. held_by page (is_among page back);
+      trees = λ place t got. back_stays was.kept.owner slot (pages_of after) back (of_table (suc place)) (tree_pages t.tree) refl (slot_table slot (suc place)) mine (was.kept.trees place t got);
+      own = back_shrinks was.kept.owner slot (pages_of after) back mine;
+      others = λ n c differ got. back_stays was.kept.owner slot (pages_of after) back (of_slot n) (pages_of c) refl (slots_differ slot n differ) mine (was.stacks n c got);
+      known = λ page. known_by page (is_among page back);
     })
   where
-    held_by : (page : ℕ) (b : Bool) → is_held (length db.tables) (if b then of_free else was.owner page) ≡ true
-    held_by page true = refl
-    held_by page false = was.held page
+    known_by : (page : ℕ) (b : Bool) → is_known (length db.tables) (if b then of_free else was.kept.owner page) ≡ true
+    known_by page true = refl
+    known_by page false = was.kept.known page
 
-    apart_by : (page : ℕ) (b : Bool) → ((n : ℕ) → is_owner (of_table n) (was.owner page) ≡ false) × ((n : ℕ) → slot ≢ n → is_owner (of_slot n) (was.owner page) ≡ false)
-        → ((n : ℕ) → is_owner (of_table n) (if b then of_free else was.owner page) ≡ false) × ((n : ℕ) → slot ≢ n → is_owner (of_slot n) (if b then of_free else was.owner page) ≡ false)
+    apart_by : (page : ℕ) (b : Bool) → ((n : ℕ) → is_owner (of_table n) (was.kept.owner page) ≡ false) × ((n : ℕ) → slot ≢ n → is_owner (of_slot n) (was.kept.owner page) ≡ false)
+        → ((n : ℕ) → is_owner (of_table n) (if b then of_free else was.kept.owner page) ≡ false) × ((n : ℕ) → slot ≢ n → is_owner (of_slot n) (if b then of_free else was.kept.owner page) ≡ false)
     apart_by page true was = (λ n. refl, λ n differ. refl)
     apart_by page false was = was
 
@@ -210,41 +210,40 @@ pub stack_of : (pages : ℕ) (contents : Contents) (db : Database) (chains : Lis
 stack_of pages contents db chains slot chain was is =
     let stands = was.stands slot chain is in
     let mine = was.stacks slot chain is in
-    let shared = was.shared in
     record {
       stack = record {
         directory = was.directory;
         ends = ends_there chains slot chain is;
         stands = stands;
       };
-      space = was.catalogue.space_is;
+      space = was.kept.catalogue.space_is;
       apart = record {
-        used = pages_all (λ x. x < db.space.fresh) chain (all_of (λ page. page < db.space.fresh) (pages_of chain) (λ page some. below page (has_owner was.owner (of_slot slot) (pages_of chain) page mine some)));
+        used = pages_all (λ x. x < db.space.fresh) chain (all_of (λ page. page < db.space.fresh) (pages_of chain) (λ page some. below page (has_owner was.kept.owner (of_slot slot) (pages_of chain) page mine some)));
         once = distinct_by_times (pages_of chain ++ db.space.free) (λ page. once page);
       };
     }
   where
-    below : (page : ℕ) → is_owner (of_slot slot) (was.owner page) ≡ true → page < db.space.fresh
+    below : (page : ℕ) → is_owner (of_slot slot) (was.kept.owner page) ≡ true → page < db.space.fresh
     below page mine = by (nat_lt page db.space.fresh) refl
       where
         by : (b : Bool) → nat_lt page db.space.fresh ≡ b → page < db.space.fresh
         by true less = grind (arith, nat_tests, less)
-        by false far = let from : db.space.fresh ≤ page = grind (arith, nat_tests, far) in absurd (bool_bad (sym (ap (is_owner (of_slot slot)) (was.shared.never page from)) ∙ mine))
+        by false far = let from : db.space.fresh ≤ page = grind (arith, nat_tests, far) in absurd (bool_bad (sym (ap (is_owner (of_slot slot)) (was.kept.shared.never page from)) ∙ mine))
 
     once : (page : ℕ) → times page (pages_of chain ++ db.space.free) ≤ 1
-    once page = by (is_owner (of_slot slot) (was.owner page)) refl
+    once page = by (is_owner (of_slot slot) (was.kept.owner page)) refl
       where
-        mine : Owns was.owner (of_slot slot) (pages_of chain)
+        mine : Owns was.kept.owner (of_slot slot) (pages_of chain)
         mine = was.stacks slot chain is
 
-        by : (b : Bool) → is_owner (of_slot slot) (was.owner page) ≡ b → times page (pages_of chain ++ db.space.free) ≤ 1
+        by : (b : Bool) → is_owner (of_slot slot) (was.kept.owner page) ≡ b → times page (pages_of chain ++ db.space.free) ≤ 1
         by true has =
-            let none : times page db.space.free ≡ 0 = was.shared.free page ∙ ap counted (slot_free slot (was.owner page) has) in
-            let few = few_of was.owner (of_slot slot) (pages_of chain) page mine in
+            let none : times page db.space.free ≡ 0 = was.kept.shared.free page ∙ ap counted (slot_free slot (was.kept.owner page) has) in
+            let few = few_of was.kept.owner (of_slot slot) (pages_of chain) page mine in
             let sum = times_both page (pages_of chain) db.space.free in
             omega (arith, none, few, sum)
         by false has =
             let none : times page (pages_of chain) ≡ 0 = mine page ∙ ap counted has in
-            let few = few_of was.owner of_free db.space.free page was.shared.free in
+            let few = few_of was.kept.owner of_free db.space.free page was.kept.shared.free in
             let sum = times_both page (pages_of chain) db.space.free in
             omega (arith, none, few, sum)

@@ -12,25 +12,26 @@ use Rattle.isp_format.specs.Ranges.{Contents}
 use Rattle.isp_format.specs.Undo.{OldImage}
 use Rattle.isp_space.specs.Giving.{with_chain}
 use Rattle.isp_space.specs.Spaces.{Space, next_free}
-use Rattle.isp_clustered.specs.Trees.{Tree}
-use Rattle.isp_image.specs.Courses.{change_at, names, stood, stood_at}
+use Rattle.isp_clustered.specs.Rows.{without}
+use Rattle.isp_clustered.specs.Trees.{IsEdited, Tree, on_leaves}
+use Rattle.isp_clustered.proofs.TreeLaws.{drops_at}
+use Rattle.isp_image.specs.Courses.{IsDropped, change_at, names, stood, stood_at}
 use Rattle.isp_image.specs.Databases.{Database, FileImage, FileRow, FileTable, back_of, image_of, row_key}
-use Rattle.isp_image.specs.Files.{IsFileImage}
+use Rattle.isp_image.specs.Files.{IsFileImage, IsFileRow}
 use Rattle.isp_image.specs.Keyed.{found, placed}
-use Rattle.isp_image.proofs.FileLaws.{Regrown, image_noted, images_written, with_table}
+use Rattle.isp_image.proofs.FileLaws.{Regrown, image_noted, images_dropped, images_written, rises_in, with_table}
+use Rattle.isp_image.proofs.KeyedLaws.{each_placed}
+use Rattle.isp_image.proofs.StoredLaws.{exchanged_rows}
+use Rattle.isp_image.proofs.TreeChanges.{edited_regrown}
 use Rattle.isp_undo.specs.Calls.{Restacks, page_taken, space_after}
 use Rattle.isp_undo.specs.Chains.{Chain, ends_of, gone, images_of, pages_of, popped, pushed, without_last}
 use Rattle.isp_undo.proofs.StackLaws.{popped_images, pushed_images}
-use Rattle.isp_chained.specs.Chained.{ChainedFile, Holds, images_in}
+use Rattle.isp_chained.specs.Chained.{ChainedFile, Holds, images_in, old_of}
 use Rattle.isp_chained.specs.Laws.{newer_of, older_of, with_space}
 use Rattle.isp_chained.specs.Steps.{AreDisjoint, FinishesAmong, IsFreeIn, IsUnnamed, NotesAmong, UndoesAmong, are_of_one}
-use Rattle.isp_chained.proofs.DatabaseLaws.{rises_in}
 use Rattle.isp_chained.proofs.HoldLaws.{regrown_holds, space_now, table_now}
 use Rattle.isp_chained.proofs.OrderLaws.{pushing_notes, stands_in_order}
 use Rattle.isp_chained.proofs.SlotLaws.{finished_holds, popped_holds, pushed_holds}
-
-abbrev pub old_of : FileImage → OldImage
-old_of i = i.image
 
 -- ---- lists of old rows, divided as their images are
 
@@ -187,10 +188,10 @@ written_file pages old mid new db chains slot chain place t tree key row count b
     let now : FileTable = table_now t tree rows in
     let held = pushed_holds pages old mid db chains slot chain image file.holds is call in
     let d = divided db.images (newer_of slot chains) (reverse (images_of chain) ++ older_of slot chains) (file.noted ∙ in_order chains slot chain is) in
-    let noted = all_back (IsFileImage db.tables) d.front d.rest (subst (λ (images : List FileImage). AllByRecursion (IsFileImage db.tables) images) d.is file.holds.noted) in
-    let rises = rises_in pages old db chains place t file.holds there in
+    let noted = all_back (IsFileImage db.tables) d.front d.rest (subst (λ (images : List FileImage). AllByRecursion (IsFileImage db.tables) images) d.is file.holds.kept.noted) in
+    let rises = rises_in pages old db place t file.holds.kept there in
     let stood_is : stood_at place key db ≡ found row_key key t.rows = ap (stood key) there in
-    let here : IsFileImage (slice_set db.tables place now) (stood_image place key db) = subst (λ (o : Option FileRow). IsFileImage (slice_set db.tables place now) (image_of place key o)) (sym stood_is) (image_noted db.tables place t tree key row there at rises (file.holds.each place t there).each slots) in
+    let here : IsFileImage (slice_set db.tables place now) (stood_image place key db) = subst (λ (o : Option FileRow). IsFileImage (slice_set db.tables place now) (image_of place key o)) (sym stood_is) (image_noted db.tables place t tree key row there at rises (file.holds.kept.each place t there).each slots) in
     let images : List FileImage = d.front ++ stood_image place key db ∷ d.rest in
     let all : AllByRecursion (IsFileImage (slice_set db.tables place now)) images = all_among (IsFileImage (slice_set db.tables place now)) d.front (stood_image place key db) d.rest (images_written db.tables place t tree key row d.front there at rises slots noted.0) here (images_written db.tables place t tree key row d.rest there at rises slots noted.1) in
     let holds = regrown_holds pages mid new (with_space db s) (slice_set chains slot after) place t tree rows count bytes images held there change all in
@@ -264,8 +265,8 @@ undone_file pages old mid new db chains slot chain images newest place t tree ke
     let rows : List FileRow = placed row_key key (Some row) t.rows in
     let now : FileTable = table_now t tree rows in
     let n = newest_among db.images (newer_of slot chains) newest (reverse images ++ older_of slot chains) (file.noted ∙ slot_newest chains slot chain images newest is newest_is) in
-    let noted = all_back (IsFileImage db.tables) n.front (n.image ∷ n.rest) (subst (λ (images : List FileImage). AllByRecursion (IsFileImage db.tables) images) n.is file.holds.noted) in
-    let rises = rises_in pages old db chains place t file.holds there in
+    let noted = all_back (IsFileImage db.tables) n.front (n.image ∷ n.rest) (subst (λ (images : List FileImage). AllByRecursion (IsFileImage db.tables) images) n.is file.holds.kept.noted) in
+    let rises = rises_in pages old db place t file.holds.kept there in
     let left : List FileImage = n.front ++ n.rest in
     let all : AllByRecursion (IsFileImage (slice_set db.tables place now)) left = all_joined (IsFileImage (slice_set db.tables place now)) n.front n.rest (images_written db.tables place t tree key row n.front there at rises slots noted.0) (images_written db.tables place t tree key row n.rest there at rises slots noted.1.1) in
     let changed = regrown_holds pages old mid db chains place t tree rows count bytes left file.holds there change all in
@@ -305,16 +306,18 @@ pub record FinishedFile (pages : ℕ) (new : Contents) (db : Database) (chains :
 -- old rows may be fewer
 holds_fewer : (pages : ℕ) (contents : Contents) (db : Database) (chains : List Chain) (images : List FileImage) → Holds pages contents db chains → AllByRecursion (IsFileImage db.tables) images → Holds pages contents (record { space = db.space; tables = db.tables; images = images }) chains
 holds_fewer pages contents db chains images was all = record {
-  catalogue = was.catalogue;
+  kept = record {
+    catalogue = was.kept.catalogue;
+    each = was.kept.each;
+    noted = all;
+    owner = was.kept.owner;
+    shared = was.kept.shared;
+    trees = was.kept.trees;
+    known = was.kept.known;
+  };
   directory = was.directory;
-  each = was.each;
   stands = was.stands;
-  noted = all;
-  owner = was.owner;
-  shared = was.shared;
-  trees = was.trees;
   stacks = was.stacks;
-  held = was.held;
 }
 
 -- no other slot names the key of one of these
@@ -366,7 +369,7 @@ finished_file pages old new db chains slot chain file apart is call =
     let d = divided db.images (newer_of slot chains) (reverse (images_of chain) ++ older_of slot chains) (file.noted ∙ in_order chains slot chain is) in
     let e = divided d.rest (reverse (images_of chain)) (older_of slot chains) d.rest_are in
     let parts : db.images ≡ d.front ++ (e.front ++ e.rest) = d.is ∙ ap (λ (rest : List FileImage). d.front ++ rest) e.is in
-    let noted = all_back (IsFileImage db.tables) d.front (e.front ++ e.rest) (subst (λ (images : List FileImage). AllByRecursion (IsFileImage db.tables) images) parts file.holds.noted) in
+    let noted = all_back (IsFileImage db.tables) d.front (e.front ++ e.rest) (subst (λ (images : List FileImage). AllByRecursion (IsFileImage db.tables) images) parts file.holds.kept.noted) in
     let noted_rest = all_back (IsFileImage db.tables) e.front e.rest noted.1 in
     let held = finished_holds pages old new db chains slot chain file.holds is call in
     let holds = holds_fewer pages new (with_space db s) (slice_set chains slot []) (d.front ++ e.rest) held (all_joined (IsFileImage db.tables) d.front e.rest noted.0 noted_rest.1) in
@@ -397,3 +400,34 @@ finished_file pages old new db chains slot chain file apart is call =
     all_joined : (P : FileImage → Type 0) (xs ys : List FileImage) → AllByRecursion P xs → AllByRecursion P ys → AllByRecursion P (xs ++ ys)
     all_joined P [] ys first second = second
     all_joined P (x ∷ xs) ys first second = (first.0, all_joined P xs ys first.1 second)
+
+-- ---- a marked row goes that no old row was noted of
+
+pub record DroppedFile (pages : ℕ) (new : Contents) (db : Database) (chains : List Chain) (place : ℕ) (key : ℤ) (now : FileTable) : Type 0 where
+  pub file : ChainedFile pages new (with_table db place now db.space db.images) chains
+  pub dropped : IsDropped place key db (with_table db place now db.space db.images)
+
+pub dropped_file : (pages : ℕ) (old new : Contents) (db : Database) (chains : List Chain) (place : ℕ) (t : FileTable) (key : ℤ) (row : FileRow) → ChainedFile pages old db chains → slice_get db.tables place ≡ Some t
+    → found row_key key t.rows ≡ Some row → row.stored.marked ≡ true → IsUnnamed place key db.images → IsEdited pages old new (suc place) t.def.root.0 t.tree (without key)
+    → DroppedFile pages new db chains place key (table_now t (on_leaves (without key) t.tree) (placed row_key key None t.rows))
+dropped_file pages old new db chains place t key row file there is marked free edited =
+    let rises = rises_in pages old db place t file.holds.kept there in
+    let tree : Tree = on_leaves (without key) t.tree in
+    let rows : List FileRow = placed row_key key None t.rows in
+    let change = edited_regrown pages old new db place t (without key) rows (drops_at key) file.holds.kept there edited (exchanged_rows key None t.rows)
+    (each_placed row_key (IsFileRow t.def.schema) key None t.rows tt (file.holds.kept.each place t there).each) in
+    record {
+      file = record {
+        holds = regrown_holds pages old new db chains place t tree rows 0 db.space.bytes db.images file.holds there change (images_dropped db.tables place t tree key db.images there rises free file.holds.kept.noted);
+        noted = file.noted;
+      };
+      dropped = record {
+        row = row;
+        stood = ap (stood key) there ∙ is;
+        marked = marked;
+        free = free;
+        exchanges = record { table = t; is_there = there; tree = tree; tables = refl };
+        images = refl;
+        space = refl;
+      };
+    }

@@ -6,7 +6,7 @@ use Rattle.std.specs.Ordering.{int_eq}
 use Rattle.isp_base.specs.Lists.{times}
 use Rattle.isp_format.specs.Leaf.{Stored, slot_of}
 use Rattle.isp_format.specs.Ranges.{Contents}
-use Rattle.isp_format.specs.Undo.{IsUndoDirectory, marked_kind}
+use Rattle.isp_format.specs.Undo.{marked_kind}
 use Rattle.isp_page.specs.State.{is_among}
 use Rattle.isp_page.specs.Touched.{KeepsPages, is_page}
 use Rattle.isp_catalog.specs.Catalogue.{IsCatalogue}
@@ -19,7 +19,7 @@ use Rattle.isp_clustered.specs.Trees.{IsTree, Tree, pages_of, rows_of}
 use Rattle.isp_clustered.proofs.TreeLaws.{tree_rises, tree_same}
 use Rattle.isp_image.specs.Databases.{Database, FileImage, FileRow, FileTable, image_of, kind_of, row_key}
 use Rattle.isp_image.specs.Courses.{names}
-use Rattle.isp_image.specs.Files.{IsFileImage, IsFileRow, IsFileTable, IsOldRow, IsSpelling, KeptFile, Owner, Owns, OwnsSpace, is_known, nobody, no_slots, of_table}
+use Rattle.isp_image.specs.Files.{IsFileImage, IsFileRow, IsFileTable, IsOldRow, IsSpelling, KeptFile, Owner, Owns, OwnsSpace, is_known, nobody, of_table}
 use Rattle.isp_image.specs.Keyed.{IsBelowEach, RisesBy, found, placed}
 use Rattle.isp_image.proofs.KeyedLaws.{found_each, found_key, found_placed, key_is, same_key}
 use Rattle.isp_image.proofs.ListLaws.{all_of, each_set, get_below, get_other, get_set, length_set, map_set_same, not_among}
@@ -81,7 +81,7 @@ place_apart a b differ same = differ (suc_same a b same)
     suc_same : (a b : ℕ) → suc a ≡ suc b → a ≡ b
     suc_same a b same = omega (arith, same)
 
-pub kept_changed : (pages : ℕ) (old new : Contents) (d : Database) (place : ℕ) (t : FileTable) (tree : Tree) (rows : List FileRow) (count bytes : ℕ) (images : List FileImage)
+abbrev pub kept_changed : (pages : ℕ) (old new : Contents) (d : Database) (place : ℕ) (t : FileTable) (tree : Tree) (rows : List FileRow) (count bytes : ℕ) (images : List FileImage)
     → KeptFile pages old d → slice_get d.tables place ≡ Some t → Regrown pages old new d place t tree rows count bytes
     → (let now : FileTable = record { def = t.def; tree = tree; rows = rows } in let s = taken_times count d.space in let space : Space = record s { bytes = bytes } in
     AllByRecursion (IsFileImage (slice_set d.tables place now)) images → KeptFile pages new (with_table d place now space images))
@@ -92,10 +92,9 @@ kept_changed pages old new d place t tree rows count bytes images kept is change
         count = ap (λ (l : List TableDef). length l) defs_same ∙ kept.catalogue.count ∙ sym (tables_stay count d.space);
         catalogue = subst (λ (defs : List TableDef). IsCatalogue pages new defs) (sym defs_same) (local pages old new (map def_of d.tables) (λ page low high. change.others page (low_page page (omega (arith, low)) high)) kept.catalogue.catalogue);
       };
-      directory = subst (λ (b : List ℕ). IsUndoDirectory b no_slots) (sym (change.others 1 (low_page 1 (omega arith) (omega arith)))) kept.directory;
       each = each_set (λ n u. IsFileTable pages new (suc n) u) d.tables place t now is here (λ m u differ got. elsewhere m u differ got);
       noted = images_are;
-      owner = owner;
+      owner = after_takes count d.space (suc place) kept.owner;
       shared = record { free = shared.free; first = shared.first; used = shared.used; never = shared.never };
       trees = each_set (λ n (u : FileTable). Owns owner (of_table (suc n)) (pages_of u.tree)) d.tables place t now is mine (λ m u differ got. theirs m u differ got);
       known = λ page. ap (λ (n : ℕ). is_known n (owner page)) (length_set d.tables place now) ∙ takes_known count d.space (suc place) (length d.tables) kept.owner (table_known place (length d.tables) (get_below d.tables place t is)) kept.known page;

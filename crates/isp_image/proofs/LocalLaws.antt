@@ -4,14 +4,13 @@ use Rattle.std.specs.Prelude.{not, nat_lt, slice_get}
 use Rattle.std.proofs.lemmas.Bool.Decides.{nat_tests}
 use Rattle.isp_format.specs.Ranges.{Contents, page_of}
 use Rattle.isp_format.specs.Space.{IsSpacePage}
-use Rattle.isp_format.specs.Undo.{IsUndoDirectory}
 use Rattle.isp_page.specs.Touched.{KeepsPages}
 use Rattle.isp_catalog.proofs.CatalogueLaws.{local}
 use Rattle.isp_space.specs.Spaces.{space_page}
 use Rattle.isp_space.proofs.SpaceLaws.{chain_same}
 use Rattle.isp_clustered.proofs.TreeLaws.{tree_same}
 use Rattle.isp_image.specs.Databases.{Database, FileTable}
-use Rattle.isp_image.specs.Files.{IsFileTable, KeptFile, no_slots}
+use Rattle.isp_image.specs.Files.{IsFileTable, KeptFile}
 use Rattle.isp_image.proofs.FileLaws.{def_of}
 use Rattle.isp_image.proofs.TreeChanges.{beside_of}
 
@@ -29,7 +28,7 @@ used_page fresh page is = by (nat_lt page fresh) refl is
 is_used : (fresh page : ℕ) → page < fresh → unused fresh page ≡ false
 is_used fresh page less = let is : nat_lt page fresh ≡ true = grind (arith, nat_tests, less) in ap not is
 
-pub kept_local : (pages : ℕ) (old new : Contents) (db : Database) → KeptFile pages old db → ((page : ℕ) → page < db.space.fresh → page_of new page ≡ page_of old page) → KeptFile pages new db
+abbrev pub kept_local : (pages : ℕ) (old new : Contents) (db : Database) → KeptFile pages old db → ((page : ℕ) → page < db.space.fresh → page_of new page ≡ page_of old page) → KeptFile pages new db
 kept_local pages old new db kept same =
     let space = kept.catalogue.space_is in
     let from = space.fresh_from in
@@ -48,7 +47,6 @@ kept_local pages old new db kept same =
         count = kept.catalogue.count;
         catalogue = local pages old new (map def_of db.tables) (λ page low high. same page (omega (arith, high, from))) kept.catalogue.catalogue;
       };
-      directory = subst (λ (b : List ℕ). IsUndoDirectory b no_slots) (sym (same 1 (omega (arith, from)))) kept.directory;
       each = λ place t is. table_stays place t is;
       noted = kept.noted;
       owner = kept.owner;

@@ -232,4 +232,4 @@ known_more tables (of_table k) is =
     let parts = and_parts (nat_le 1 k) (nat_le k tables) is in
     let most = test_le k tables parts.1 in
     and_from (nat_le 1 k) (nat_le k (suc tables)) parts.0 (le_test k (suc tables) (omega (arith, most)))
-known_more tables (of_slot k) is = absurd (bool_bad is)
+known_more tables (of_slot k) is = is
