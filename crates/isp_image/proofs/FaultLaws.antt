@@ -1,6 +1,6 @@
 -- What calls below name are later rules.
 use Rattle.std.proofs.Common.{◌≡◌, ℕ, ◌<◌, arith, inl, inr}
-use Rattle.std.specs.Prelude.{◌⊎◌, IfErr, Result, Ok, Err, ⊤}
+use Rattle.std.specs.Prelude.{◌⊎◌, IfErr, Result, Ok, Err}
 use Rattle.isp_catalog.specs.Catalogue.{NamesCatalogue, NamesCatalogueOrLacks}
 use Rattle.isp_clustered.specs.Calls.{NamesAnyOrLacks, NamesTreeOrSpace}
 use Rattle.isp_image.specs.Faults.{NamesLater, NamesLaterOrLacks}

@@ -61,21 +61,21 @@ pub record Regrown (pages : ℕ) (old new : Contents) (d : Database) (place : �
   pub is_space : IsSpace pages new (let s = taken_times count d.space in record s { bytes = bytes })
   pub others : KeepsPages (λ page. is_page 0 page || is_among page (pages_of tree)) old new
 
-neither : (a b : Bool) → a ≡ false → b ≡ false → (a || b) ≡ false
+pub neither : (a b : Bool) → a ≡ false → b ≡ false → (a || b) ≡ false
 neither a b one other = ap (λ x. x || b) one ∙ other
 
-tables_stay : (k : ℕ) (s : Space) → (taken_times k s).tables ≡ s.tables
+pub tables_stay : (k : ℕ) (s : Space) → (taken_times k s).tables ≡ s.tables
 tables_stay zero s = refl
 tables_stay (suc k) s = tables_stay k (taken s)
 
-far_from_zero : (page : ℕ) → 1 ≤ page → is_page 0 page ≡ false
+pub far_from_zero : (page : ℕ) → 1 ≤ page → is_page 0 page ≡ false
 far_from_zero page some = grind (arith, some)
 
-not_low : (owner : ℕ → Owner) (n page : ℕ) (xs : List ℕ) → Owns owner (of_table n) xs → ((p : ℕ) → p < 16 → owner p ≡ nobody) → 1 ≤ times page xs → 1 ≤ page
+pub not_low : (owner : ℕ → Owner) (n page : ℕ) (xs : List ℕ) → Owns owner (of_table n) xs → ((p : ℕ) → p < 16 → owner p ≡ nobody) → 1 ≤ times page xs → 1 ≤ page
 not_low owner n zero xs has first some = let none = nobody_none owner n xs 0 has (first 0 (omega arith)) in absurd (omega (arith, none, some))
 not_low owner n (suc page) xs has first some = omega arith
 
-place_apart : (a b : ℕ) → (a ≡ b → ⊥) → suc a ≢ suc b
+pub place_apart : (a b : ℕ) → (a ≡ b → ⊥) → suc a ≢ suc b
 place_apart a b differ same = differ (suc_same a b same)
   where
     suc_same : (a b : ℕ) → suc a ≡ suc b → a ≡ b

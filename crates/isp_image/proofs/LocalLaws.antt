@@ -18,14 +18,14 @@ use Rattle.isp_image.proofs.TreeChanges.{beside_of}
 abbrev unused : ℕ → ℕ → Bool
 unused fresh page = not (nat_lt page fresh)
 
-used_page : (fresh page : ℕ) → unused fresh page ≡ false → page < fresh
+pub used_page : (fresh page : ℕ) → unused fresh page ≡ false → page < fresh
 used_page fresh page is = by (nat_lt page fresh) refl is
   where
     by : (b : Bool) → nat_lt page fresh ≡ b → not b ≡ false → page < fresh
     by true less out = grind (arith, nat_tests, less)
     by false far out = let bad : true ≡ false = out in absurd (let no_way : ⊥ = cc in no_way)
 
-is_used : (fresh page : ℕ) → page < fresh → unused fresh page ≡ false
+pub is_used : (fresh page : ℕ) → page < fresh → unused fresh page ≡ false
 is_used fresh page less = let is : nat_lt page fresh ≡ true = grind (arith, nat_tests, less) in ap not is
 
 abbrev pub kept_local : (pages : ℕ) (old new : Contents) (db : Database) → KeptFile pages old db → ((page : ℕ) → page < db.space.fresh → page_of new page ≡ page_of old page) → KeptFile pages new db

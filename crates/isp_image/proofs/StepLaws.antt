@@ -1,11 +1,11 @@
 -- What a step of one row does to the tables of a file: those of now change at that row, and a marked row that goes leaves them.
-use Rattle.std.proofs.Common.{◌≡◌, ℕ, ◌==◌, ℤ, Bool, true, false, List, [], ◌∷◌, ◌++◌, map, Option, Some, None, refl, sym, ◌∙◌, ap, subst, arith, if◌then◌else◌}
+use Rattle.std.proofs.Common.{◌≡◌, ℕ, ◌==◌, ℤ, Bool, true, false, List, map, Option, Some, None, refl, sym, ◌∙◌, ap, arith, if◌then◌else◌}
 use Rattle.std.specs.Prelude.{◌&&◌, slice_get, slice_set}
 use Rattle.std.specs.Ordering.{int_eq}
 use Rattle.std.proofs.lemmas.Int.{ints}
 use Rattle.isp_format.specs.Ranges.{Contents}
 use Rattle.isp_changes.specs.Changes.{after_change}
-use Rattle.isp_image.specs.Courses.{ChangesOnly, Exchanges, IsDropped, change_at, stood, stood_at}
+use Rattle.isp_image.specs.Courses.{ChangesOnly, Exchanges, IsDropped, change_at, stood}
 use Rattle.isp_image.specs.Databases.{Database, FileRow, FileTable, committed, put_back, row_key, shown, table_of, tables_of}
 use Rattle.isp_image.specs.Files.{KeptFile}
 use Rattle.isp_image.specs.Keyed.{IsAtKey, RisesBy, found, placed}

@@ -13,7 +13,7 @@ use Rattle.isp_space.specs.Spaces.{IsSpace, free_pages, has_room, most_counted, 
 use Rattle.isp_space.proofs.SpaceLaws.{chain_same}
 use Rattle.isp_clustered.specs.Puts.{CanPut, IsBeside, IsPut, most_put}
 use Rattle.isp_clustered.specs.Rows.{exchanged, may_put, new_row, with_put}
-use Rattle.isp_clustered.specs.Trees.{IsEdited, IsTree, Tree, TreeLeaf, on_leaf, on_leaves, pages_of, rows_of}
+use Rattle.isp_clustered.specs.Trees.{IsEdited, Tree, TreeLeaf, on_leaf, on_leaves, pages_of, rows_of}
 use Rattle.isp_clustered.proofs.TreeLaws.{edited_rows}
 use Rattle.isp_levels.specs.Edits.{ChangesAt}
 use Rattle.isp_image.specs.Databases.{Database, FileRow, FileTable, row_key}
