@@ -289,3 +289,17 @@ module _ (pages : ℕ) (old : Contents) (chains : List Chain) (slot : ℕ) (chai
 
 pub parts_write : (pages : ℕ) (old mid new : Contents) (slot : ℕ) (w : Write) → PushesOld pages old slot (old_image w.at w.old) mid → WritesTree pages mid w new → Writes pages old slot w new
 parts_write pages old mid new slot w pushes calls = record { makes = λ chains chain d t row can. wrote_tree pages old chains slot chain w d t row can mid pushes new calls }
+
+-- the row may be written into some tree then, by a store's count of pages behind the push
+pub tree_sound : (pages pages_now : ℕ) (old mid : Contents) (chains : List Chain) (slot : ℕ) (chain : Chain) (w : Write) (d : Database) (t : FileTable) (row : Row) (P : Type 0) → pages_now ≡ pages → CanWrite pages old chains slot chain w d t row
+    → PushesOld pages old slot (old_image w.at w.old) mid → ((table : ℕ) (tree : Tree) (s : Space) → CanWriteTree pages_now mid w table tree s → P) → P
+tree_sound pages pages_now old mid chains slot chain w d t row P shape can pushes call =
+    let number = suc (place_of w.at) in
+    let s = space_after (stood_image (place_of w.at) w.at.key d).image chain d.space in
+    call number t.tree s (subst (λ (n : ℕ). CanWriteTree n mid w number t.tree s) (sym shape) (can_tree pages old chains slot chain w d t row can mid pushes))
+
+-- contents that are the same
+pub can_moved : (pages pages_now : ℕ) (old now : Contents) (chains : List Chain) (slot : ℕ) (chain : Chain) (w : Write) (d : Database) (t : FileTable) (row : Row) → pages_now ≡ pages → now ≡ old → CanWrite pages old chains slot chain w d t row
+    → CanWrite pages_now now chains slot chain w d t row
+can_moved pages pages_now old now chains slot chain w d t row shape same can =
+    subst (λ (n : ℕ). CanWrite n now chains slot chain w d t row) (sym shape) (subst (λ (c : Contents). CanWrite pages c chains slot chain w d t row) (sym same) can)

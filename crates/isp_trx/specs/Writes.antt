@@ -104,7 +104,7 @@ pub record Undid (pages : ℕ) (contents : Contents) (chains : List Chain) (slot
   pub only : ChangesOnly (pred image.image.table) image.image.key d after
 
 abbrev pub UndidIf : ℕ → Contents → Contents → List Chain → ℕ → Chain → ℕ → Database → Type 0
-UndidIf pages old new chains slot chain 0 d = new ≡ old
+UndidIf pages old new chains slot chain zero d = new ≡ old
 UndidIf pages old new chains slot chain (suc count) d = Undid pages new chains slot chain d
 
 pub record Undoes (pages : ℕ) (old : Contents) (slot : ℕ) (count : ℕ) (roots : List ℕ) (new : Contents) : Type 0 where

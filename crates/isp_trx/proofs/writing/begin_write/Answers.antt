@@ -1,8 +1,8 @@
-use Rattle.std.proofs.Common.{rules, ℕ, map, sym, ap, subst}
+use Rattle.std.proofs.Common.{rules, ℕ, map, ap, subst}
 use Rattle.isp_page.specs.State.{FileShape}
 use Rattle.isp_undo.specs.Chains.{ends_of}
-use Rattle.isp_trx.specs.Noting.{CanWriteTree, WritesTree, write_at}
-use Rattle.isp_trx.proofs.WriteLaws.{can_push, can_tree, parts_write}
+use Rattle.isp_trx.specs.Noting.{WritesTree, write_at}
+use Rattle.isp_trx.proofs.WriteLaws.{can_push, parts_write, tree_sound}
 use Rattle.isp_trx.proofs.writing.begin_write.Goals as goal
 
 pub returns-clause-written : goal.returns-clause-written
@@ -22,6 +22,5 @@ pub returns-in_err-write_tree-clause-sound : goal.returns-in_err-write_tree-clau
 returns-in_err-write_tree-clause-sound g c tells chains chain d t r can =
     let w = write_at c.args.at c.args.root.0 c.args.old.now c.args.row.now c.args.marked in
     let shape = ap (λ (shape : FileShape). shape.pages) c.in_ok-push_old.ensures.kept.keeps.same_shape in
-    let may = can_tree _ _ chains c.args.slot chain w d t r can _ (c.in_ok-push_old.ensures.pushed tells) in
-    let sound = c.in_err-write_tree.ensures.sound tells _ t.tree _ (subst (λ (n : ℕ). CanWriteTree n (g.P.Pages.contents c.push_old.new.pages) w _ t.tree _) (sym shape) may) in
+    let sound = tree_sound _ _ _ _ chains c.args.slot chain w d t r _ shape can (c.in_ok-push_old.ensures.pushed tells) (c.in_err-write_tree.ensures.sound tells) in
     search (rules, sound, c.from_residual-in_err-write_tree.ensures)
