@@ -1,3 +1,4 @@
+pub mod Backs
 pub mod Laws
 pub mod Noting
 pub mod Order
