@@ -1,10 +1,9 @@
 -- A row that is written in a file with chains, in its two parts: what stood there is pushed, and then the row's tree changed. A file with
 -- chains comes of it again, in which what stood there is the newest old row of the slot.
-use Rattle.std.proofs.Common.{◌≡◌, ℕ, zero, suc, pred, ◌+◌, ◌-◌, ◌<◌, ◌≤◌, ℤ, Bool, true, false, List, [], ◌∷◌, ◌++◌, length, map, drop, Option, Some, None, refl, sym, ◌∙◌, ap, subst, arith, inl, inr, if◌then◌else◌}
+use Rattle.std.proofs.Common.{◌≡◌, ℕ, zero, suc, pred, ◌+◌, ◌-◌, ◌<◌, ◌≤◌, ℤ, Bool, true, false, List, [], ◌∷◌, ◌++◌, length, map, Option, Some, None, refl, sym, ◌∙◌, ap, subst, arith, inl, inr, if◌then◌else◌}
 use Rattle.std.specs.Prelude.{◌⊎◌, ◌&&◌, nat_le, nat_lt, slice_get, slice_set}
 use Rattle.std.specs.Option.{option_map}
 use Rattle.std.proofs.lemmas.Bool.Decides.{nat_tests}
-use Rattle.std.proofs.lemmas.List.{length-append, length-drop}
 use Rattle.isp_format.specs.Leaf.{Stored, slot_of}
 use Rattle.isp_format.specs.Ranges.{Contents}
 use Rattle.isp_format.specs.Undo.{OldImage}
@@ -41,6 +40,7 @@ use Rattle.isp_trx.specs.Noting.{CanWriteTree, PushesOld, Write, WritesTree, is_
 use Rattle.isp_trx.specs.Transactions.{old_image}
 use Rattle.isp_trx.specs.Writes.{CanWrite, Writes, Wrote, change_of, place_of}
 use Rattle.isp_trx.specs.declared.keys.RowKey.{RowKey}
+use Rattle.isp_trx.proofs.RowLaws.{found_in_tree, same_slot}
 
 -- ---- what stands at a key
 
@@ -73,16 +73,6 @@ less_slot size x o is less = under (slot_of x.stored) size (ap (λ (p : Option F
   where
     under : (a b : ℕ) → nat_lt a b ≡ true → a < b
     under a b h = grind (arith, nat_tests, h)
-
-drop_slot : (row one rest : List ℕ) → length row ≤ length one + length rest → length row + length (drop (length row) (one ++ rest)) ≡ length one + length rest
-drop_slot row one rest fits =
-    let left = length-drop (length row) (one ++ rest) in
-    let all = length-append one rest in
-    omega (arith, left, all, fits)
-
--- a row that is written into a slot leaves its size
-pub same_slot : (row : List ℕ) (marked : Bool) (s : Stored) → length row ≤ slot_of s → slot_of (rewritten row marked s) ≡ slot_of s
-same_slot row marked s fits = drop_slot row s.row s.rest fits
 
 large_row : (size : ℕ) (o : Option FileRow) → is_smaller size (option_map kept_of (option_map stored_of o)) ≡ false → (x : FileRow) × (o ≡ Some x) × (size ≤ slot_of x.stored)
 large_row size None is = let bad : true ≡ false = is in absurd (let no_way : ⊥ = cc in no_way)
@@ -149,17 +139,17 @@ module _ (pages : ℕ) (old : Contents) (chains : List Chain) (slot : ℕ) (chai
   stands_is : w.old ≡ option_map kept_of (option_map stored_of there)
   stands_is = can.stands ∙ ap (λ (rows : List Stored). option_map kept_of (find key rows)) table_is.rows ∙ ap (option_map kept_of) (find_row key t.rows)
 
-  found_in_tree : find key (rows_of t.tree) ≡ option_map stored_of there
-  found_in_tree = ap (find key) table_is.rows ∙ find_row key t.rows
+  in_tree : find key (rows_of t.tree) ≡ option_map stored_of there
+  in_tree = found_in_tree pages old d place t key was can.is_there
 
   smaller_there : is_put w ≡ is_smaller (length w.row) (option_map kept_of (option_map stored_of there))
   smaller_there = ap (is_smaller (length w.row)) stands_is
 
   puts_is : is_put w ≡ may_put key (length w.row) (rows_of t.tree)
-  puts_is = smaller_there ∙ smaller_is (length w.row) there ∙ sym (ap (slot_less (length w.row)) found_in_tree)
+  puts_is = smaller_there ∙ smaller_is (length w.row) there ∙ sym (ap (slot_less (length w.row)) in_tree)
 
   holds_is : is_put w ≡ false → holds key (length w.row) t.tree ≡ true
-  holds_is large = ap (slot_holds (length w.row)) found_in_tree ∙ holds_it (length w.row) there (sym smaller_there ∙ large)
+  holds_is large = ap (slot_holds (length w.row)) in_tree ∙ holds_it (length w.row) there (sym smaller_there ∙ large)
 
   -- what is noted, from the file and from `get`
   abbrev image : OldImage
