@@ -12,6 +12,7 @@ use isp_undo_pages::{MARKED_KIND, UndoBuf};
 
 // The kinds of an entry for no row, and for one without a mark.
 pub(crate) const ABSENT_KIND: u8 = 0;
+
 pub(crate) const UNMARKED_KIND: u8 = 1;
 
 // Copies a row to the front.
