@@ -2,6 +2,7 @@ pub mod CommitLaws
 pub mod LoopLaws
 pub mod Makes
 pub mod MoreMakes
+pub mod PartLaws
 pub mod RootLaws
 pub mod RowLaws
 pub mod SweepLaws

@@ -18,6 +18,7 @@ use Rattle.isp_chained.specs.Chained.{ChainedFile, old_of}
 use Rattle.isp_chained.specs.Courses.{Reaches, Step}
 use Rattle.isp_chained.specs.Laws.{Finishing, newer_of}
 use Rattle.isp_chained.specs.Steps.{AreDisjoint, IsFreeIn}
+pub use Rattle.isp_trx.specs.Noting.{Write, is_put, is_smaller, write_at}
 use Rattle.isp_trx.specs.Transactions.{old_image}
 use Rattle.isp_trx.specs.declared.keys.RowKey.{RowKey}
 
@@ -25,22 +26,6 @@ abbrev pub place_of : RowKey → ℕ
 place_of at = pred at.table
 
 -- ---- a row is written
-
--- a row that is written at a key, on the tree of that root; what stands there; and whether it is to be marked
-pub record Write : Type 0 where
-  pub at : RowKey
-  pub root : ℕ
-  pub old : Option Kept
-  pub row : List ℕ
-  pub marked : Bool
-
-abbrev pub write_at : RowKey → ℕ → Option Kept → List ℕ → Bool → Write
-write_at at root old row marked = record { at = at; root = root; old = old; row = row; marked = marked }
-
--- the key isn't there, or its slot is smaller
-abbrev pub is_smaller : ℕ → Option Kept → Bool
-is_smaller size None = true
-is_smaller size (Some kept) = nat_lt kept.slot size
 
 -- The contents are this database with these chains, of which the slot's is this one, and there is room; no other slot has an old row of
 -- the key; the row spells one of the table, and isn't to be marked where it is put.
@@ -54,7 +39,7 @@ pub record CanWrite (pages : ℕ) (contents : Contents) (chains : List Chain) (s
   pub stands : w.old ≡ option_map kept_of (find w.at.key (rows_of t.tree))
   pub spells : IsSpelling t.def.schema w.at.key w.row row
   pub room : has_room pages d.space ≡ true
-  pub unmarked : is_smaller (length w.row) w.old ≡ true → w.marked ≡ false
+  pub unmarked : is_put w ≡ true → w.marked ≡ false
 
 -- the change of plain tables that it is
 abbrev pub change_of : Write → Row → RowChange
