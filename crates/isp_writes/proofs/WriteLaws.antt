@@ -118,7 +118,7 @@ module _ {S : Type 0} (g : Ghosts S) (now : S) (defs : List TableDef) (trx : Trx
   may_delete bytes stood copy =
       let s = row_stands (g.shape now).pages (g.contents now) d place at.table (key_of row) row opened.kept.holds.kept at.is_there stood in
       let is : old ≡ Some (kept_of s.stored) = stands ∙ ap (option_map kept_of) s.there in
-      let same : bytes ≡ s.stored.row = some_bytes bytes s.stored.row (copy (kept_of s.stored) is s.short) in
+      let same : bytes ≡ s.stored.row = some_bytes bytes s.stored.row (copy (kept_of s.stored) is) in
       let holds : is_smaller (length bytes) old ≡ false = (λ i. is_smaller (length (same i)) (is i)) ∙ number_less (length s.stored.row) (length s.stored.rest) in
       record {
         kept = opened.kept;
@@ -141,7 +141,7 @@ module _ {S : Type 0} (g : Ghosts S) (now : S) (defs : List TableDef) (trx : Trx
   pub never_none : (deletes : Bool) → IsWritable deletes place row d → IsBytesOf def.schema row deletes old None → ⊥
   never_none true stood copy =
       let s = row_stands (g.shape now).pages (g.contents now) d place at.table (key_of row) row opened.kept.holds.kept at.is_there stood in
-      let none : None ≡ Some s.stored.row = copy (kept_of s.stored) (stands ∙ ap (option_map kept_of) s.there) s.short in cc
+      let none : None ≡ Some s.stored.row = copy (kept_of s.stored) (stands ∙ ap (option_map kept_of) s.there) in cc
   never_none false lined is = is
 
 -- the store is open, behind calls that change neither its pages nor what is noted

@@ -32,9 +32,9 @@ abbrev pub is_short : Option Kept → Bool
 is_short None = true
 is_short (Some kept) = nat_le (length kept.row) row_limit
 
--- the bytes that stand there, where they are no more than a row may have
+-- the bytes that stand there
 abbrev pub IsCopyOf : Option Kept → Option (List ℕ) → Type 0
-IsCopyOf old found = (kept : Kept) → old ≡ Some kept → length kept.row ≤ row_limit → found ≡ Some kept.row
+IsCopyOf old found = (kept : Kept) → old ≡ Some kept → found ≡ Some kept.row
 
 -- bytes that spell the row, if it has no line feed
 abbrev pub SpellsNew : Schema → Row → Option (List ℕ) → Type 0

@@ -39,18 +39,15 @@ fn is_short(old: &Option<Kept>) -> bool
     }
 }
 
-// A copy of the bytes that stand there, unless there are none or too many.
+// A copy of the bytes that stand there, unless there are none.
 fn kept_bytes(alloc: Global, old: &Option<Kept>) -> Result<Option<Bytes>, AllocError>
+    requires few { IfSome old.now (λ kept. length kept.row ≤ most_slot) }
     ensures short { IfOk result (λ found. IfSome found (λ bytes. length bytes ≤ 1000)) }
     ensures same { IfOk result (IsCopyOf old.now) }
 {
     match old {
         Some(kept) => {
-            let bytes = kept.row.as_slice();
-            if bytes.len() > ROW_LIMIT {
-                return Ok(None);
-            }
-            let bytes = Bytes::from_slice(alloc, bytes)?;
+            let bytes = Bytes::from_slice(alloc, kept.row.as_slice())?;
             Ok(Some(bytes))
         }
         None => Ok(None),
@@ -66,6 +63,7 @@ fn bytes_for(
     old: &Option<Kept>,
 ) -> Result<Option<Bytes>, AllocError>
     requires row { deletes ≡ false → IsPutRow schema.now row.now }
+    requires few { IfSome old.now (λ kept. length kept.row ≤ most_slot) }
     ensures short { IfOk result (λ found. IfSome found (λ bytes. length bytes ≤ 1000)) }
     ensures bytes { IfOk result (IsBytesOf schema.now row.now deletes old.now) }
 {

@@ -20,6 +20,11 @@ write_bytes-requires-clause-short g c =
     let short : c.is_short.result ≡ true = search (rules, c.if-not-is_short.false) in
     short_is c.in_ok-old.old (sym c.is_short.ensures ∙ short)
 
+pub bytes_for-requires-clause-few : goal.bytes_for-requires-clause-few
+bytes_for-requires-clause-few g c =
+    let short : c.is_short.result ≡ true = search (rules, c.if-not-is_short.false) in
+    short_is c.in_ok-old.old (sym c.is_short.ensures ∙ short)
+
 pub returns-then-not-is_short-clause-sound : goal.returns-then-not-is_short-clause-sound
 returns-then-not-is_short-clause-sound g c tells defs d place opened at writable =
     let long : c.is_short.result ≡ false = search (rules, c.if-not-is_short.true) in
