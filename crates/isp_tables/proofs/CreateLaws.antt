@@ -11,8 +11,8 @@ use Rattle.isp_changes.specs.Stages.{with_empty}
 use Rattle.isp_format.specs.Ranges.{Contents}
 use Rattle.isp_creating.specs.Creating.{CanCreate, Created}
 use Rattle.isp_image.specs.Databases.{Database, FileImage, FileTable, tables_of}
-use Rattle.isp_image.specs.Files.{KeptFile}
-use Rattle.isp_image.proofs.StepLaws.{reaches_more, reaches_self}
+use Rattle.isp_chained.specs.Chained.{ChainedFile, alone}
+use Rattle.isp_chained.proofs.CourseLaws.{reaches_more, reaches_self}
 use Rattle.isp_page.specs.declared.pages.Pages.{Ghosts}
 use Rattle.isp_plain.specs.RowBytes.{indexed_columns}
 use Rattle.isp_plain.specs.declared.value.Column.{Column}
@@ -47,8 +47,8 @@ room_free pages s room =
     let some = and_first (nat_le room_pages (free_pages pages s)) (nat_lt s.entries most_counted && nat_lt s.bytes most_counted) room in
     let least : room_pages ≤ free_pages pages s = grind (arith, nat_tests, some) in omega (arith, least)
 
-pub can_create : {S : Type 0} (g : Ghosts S) (now : S) (defs : List TableDef) (trx : TrxState) (d : Database) (name : List ℕ) (schema : Schema) (number : ℕ) → IsOpen g now defs trx d → IsNewDefinition defs name schema → number ≡ length defs + 1
-    → has_room (g.shape now).pages d.space ≡ true → CanCreate (g.shape now).pages (g.contents now) number name d
+pub can_create : {S : Type 0} (g : Ghosts S) (now : S) (defs : List TableDef) (trx : TrxState) (d : Database) (name : List ℕ) (schema : Schema) (number : ℕ) (opened : IsOpen g now defs trx d) → IsNewDefinition defs name schema → number ≡ length defs + 1
+    → has_room (g.shape now).pages d.space ≡ true → CanCreate (g.shape now).pages (g.contents now) (alone trx.session opened.chain) number name d
 can_create g now defs trx d name schema number opened new is room = record {
   kept = opened.kept;
   next = is ∙ ap (λ (n : ℕ). n + 1) (sym (ap (λ (l : List TableDef). length l) opened.defs_are) ∙ length_map def_of d.tables);
@@ -56,23 +56,26 @@ can_create g now defs trx d name schema number opened new is room = record {
   free = room_free (g.shape now).pages d.space room;
 }
 
-pub did_create : {S : Type 0} (g : Ghosts S) (old new : S) (defs defs_now : List TableDef) (trx : TrxState) (d : Database) (name : List ℕ) (schema : Schema) (def : TableDef) (mid : Contents) → IsOpen g old defs trx d
-    → (g.shape new).pages ≡ (g.shape old).pages → g.contents new ≡ mid → def.name ≡ name → def.schema ≡ schema → defs_now ≡ defs ++ def ∷ [] → Created (g.shape old).pages mid def d
+pub did_create : {S : Type 0} (g : Ghosts S) (old new : S) (defs defs_now : List TableDef) (trx : TrxState) (d : Database) (name : List ℕ) (schema : Schema) (def : TableDef) (mid : Contents) (opened : IsOpen g old defs trx d)
+    → (g.shape new).pages ≡ (g.shape old).pages → g.contents new ≡ mid → def.name ≡ name → def.schema ≡ schema → defs_now ≡ defs ++ def ∷ [] → Created (g.shape old).pages mid (alone trx.session opened.chain) def d
     → DidCreate g new defs_now trx name schema d
 did_create g old new defs defs_now trx d name schema def mid opened pages contents name_is schema_is defs_are c =
     let n = (g.shape new).pages in
-    let kept_now : KeptFile n (g.contents new) c.after = subst (λ (k : ℕ). KeptFile k (g.contents new) c.after) (sym pages) (subst (λ (x : Contents). KeptFile (g.shape old).pages x c.after) (sym contents) c.kept) in
+    let chains = alone trx.session opened.chain in
+    let kept_now : ChainedFile n (g.contents new) c.after chains = subst (λ (k : ℕ). ChainedFile k (g.contents new) c.after chains) (sym pages) (subst (λ (x : Contents). ChainedFile (g.shape old).pages x c.after chains) (sym contents) c.kept) in
     record {
       after = c.after;
       opened = record {
+        chain = opened.chain;
         kept = kept_now;
+        slot = opened.slot;
         defs_are = ap (map def_of) c.tables ∙ append_map d.tables c.table ∙ (λ i. opened.defs_are i ++ c.def_is i ∷ []) ∙ sym defs_are;
-        noted = ap (map (λ (i : FileImage). i.image)) c.images ∙ opened.noted;
-        written = create_adds_none (g.shape old).pages mid trx.keys def d opened.written c;
+        noted = opened.noted ∙ sym (ap (λ (images : List FileImage). length images) c.images);
+        written = create_adds_none (g.shape old).pages mid chains trx.keys def d opened.written c;
       };
       images = c.images;
       tables = c.now ∙ (λ i. with_empty (tables_of d) (name_is i) (schema_is i));
-      reaches = reaches_more n d d c.after (reaches_self n d) c.step (g.contents new, kept_now);
+      reaches = reaches_more n d d c.after (reaches_self n d) c.step (g.contents new, chains, kept_now);
     }
 
 -- ---- the store goes on

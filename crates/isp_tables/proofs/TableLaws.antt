@@ -8,7 +8,10 @@ use Rattle.std.specs.Str.{bytes_eq}
 use Rattle.isp_catalog.specs.declared.table.TableDef.{TableDef}
 use Rattle.isp_format.specs.Ranges.{Contents}
 use Rattle.isp_image.specs.Databases.{Database, FileTable, table_of, tables_of}
-use Rattle.isp_image.specs.Files.{IsFileTable, KeptFile}
+use Rattle.isp_image.specs.Files.{IsFileTable}
+use Rattle.isp_chained.specs.Chained.{ChainedFile, alone}
+use Rattle.isp_chained.specs.Laws.{OneChain}
+use Rattle.isp_chained.proofs.AloneLaws.{alone_one}
 use Rattle.isp_page.specs.declared.pages.Pages.{Ghosts}
 use Rattle.isp_plain.specs.Does.{place_of}
 use Rattle.isp_plain.specs.Tables.{Table}
@@ -64,18 +67,25 @@ plain_at d place def at = plain_there d.tables place at.table at.is_there
 -- the store has it
 pub file_table : {S : Type 0} (g : Ghosts S) (now : S) (defs : List TableDef) (trx : TrxState) (d : Database) (place : ℕ) (def : TableDef) → IsOpen g now defs trx d → (at : IsAtPlace place def d) → HasFileTable g now def at.table
 file_table g now defs trx d place def opened at =
-    let t = opened.kept.each place at.table at.is_there in
+    let t = opened.kept.holds.kept.each place at.table at.is_there in
     let number : suc place ≡ def.number = sym t.number_is ∙ ap (λ (x : TableDef). x.number) at.is in
     record { is = at.is; table = subst (λ (n : ℕ). IsFileTable (g.shape now).pages (g.contents now) n at.table) number t }
 
 pub def_number : {S : Type 0} (g : Ghosts S) (now : S) (defs : List TableDef) (trx : TrxState) (d : Database) (place : ℕ) (def : TableDef) → IsOpen g now defs trx d → (at : IsAtPlace place def d) → def.number ≡ suc place
-def_number g now defs trx d place def opened at = ap (λ (x : TableDef). x.number) (sym at.is) ∙ (opened.kept.each place at.table at.is_there).number_is
+def_number g now defs trx d place def opened at = ap (λ (x : TableDef). x.number) (sym at.is) ∙ (opened.kept.holds.kept.each place at.table at.is_there).number_is
+
+-- ---- one chain
+
+pub one_chain : {S : Type 0} (g : Ghosts S) (now : S) (defs : List TableDef) (trx : TrxState) (d : Database) (opened : IsOpen g now defs trx d) → OneChain trx.session opened.chain d
+one_chain g now defs trx d opened = alone_one (g.shape now).pages (g.contents now) d trx.session opened.chain opened.slot opened.kept
 
 -- ---- the same pages
 
 pub open_on : {S : Type 0} (g : Ghosts S) (old new : S) (defs : List TableDef) (trx : TrxState) (d : Database) → (g.shape new).pages ≡ (g.shape old).pages → g.contents new ≡ g.contents old → IsOpen g old defs trx d → IsOpen g new defs trx d
 open_on g old new defs trx d pages contents opened = record {
-  kept = subst (λ (n : ℕ). KeptFile n (g.contents new) d) (sym pages) (subst (λ (c : Contents). KeptFile (g.shape old).pages c d) (sym contents) opened.kept);
+  chain = opened.chain;
+  kept = subst (λ (n : ℕ). ChainedFile n (g.contents new) d (alone trx.session opened.chain)) (sym pages) (subst (λ (c : Contents). ChainedFile (g.shape old).pages c d (alone trx.session opened.chain)) (sym contents) opened.kept);
+  slot = opened.slot;
   defs_are = opened.defs_are;
   noted = opened.noted;
   written = opened.written;

@@ -15,9 +15,10 @@ use Rattle.isp_image.specs.Databases.{Database, FileImage, FileRow, FileTable, r
 use Rattle.isp_image.specs.Keyed.{IsBelowEach, RisesBy, found}
 use Rattle.isp_image.proofs.FileLaws.{def_of, rises_in}
 use Rattle.isp_image.proofs.KeyedLaws.{found_each, key_is}
+use Rattle.isp_undo.specs.Chains.{Chain}
 use Rattle.isp_trx.specs.Transactions.{old_image}
-use Rattle.isp_trx.specs.Writes.{IsFree, IsUnmarked, SweptAll, images_of, is_marked, place_of}
-use Rattle.isp_trx.specs.declared.noted.RowKey.{RowKey}
+use Rattle.isp_trx.specs.Writes.{IsFree, IsUnmarked, SweptAll, is_marked, place_of}
+use Rattle.isp_trx.specs.declared.keys.RowKey.{RowKey}
 use Rattle.isp_trx.proofs.SweepLaws.{get_def}
 use Rattle.isp_trx_laws.specs.Laws.{CommitAddsNone, CreateAddsNone, NoneWritten, SweepLeavesNone, UndoAddsNone, WriteAddsKey, WrittenInAnyOrder, WrittenMaySweep}
 use Rattle.isp_trx_laws.specs.Written.{AreWritten, IsOfTable, is_written}
@@ -82,29 +83,44 @@ old_at : (at : RowKey) (o : Option Kept) → ((old_image at o).table ≡ at.tabl
 old_at at None = (refl, refl)
 old_at at (Some kept) = (refl, refl)
 
-first_image : (a b : OldImage) (xs ys : List OldImage) → a ∷ xs ≡ b ∷ ys → a ≡ b
-first_image a b xs ys same = cc
-
 noted_more : (keys : List RowKey) (at : RowKey) (images : List FileImage) → AllByRecursion (λ (i : FileImage). is_written keys (pred i.image.table) i.image.key ≡ true) images
     → AllByRecursion (λ (i : FileImage). is_written (keys ++ at ∷ []) (pred i.image.table) i.image.key ≡ true) images
 noted_more keys at [] all = tt
 noted_more keys at (i ∷ images) all = (written_more keys at (pred i.image.table) i.image.key all.0, noted_more keys at images all.1)
 
+-- old rows among others
+module _ (P : FileImage → Type 0) (i : FileImage) where
+  all_among : (newer older : List FileImage) → P i → AllByRecursion P (newer ++ older) → AllByRecursion P (newer ++ i ∷ older)
+  all_among [] older one all = (one, all)
+  all_among (x ∷ newer) older one all = (all.0, all_among newer older one all.1)
+
+  one_among : (newer older : List FileImage) → AllByRecursion P (newer ++ i ∷ older) → P i
+  one_among [] older all = all.0
+  one_among (x ∷ newer) older all = one_among newer older all.1
+
+all_but : (P : FileImage → Type 0) (newer mine older : List FileImage) → AllByRecursion P (newer ++ (mine ++ older)) → AllByRecursion P (newer ++ older)
+all_but P [] [] older all = all
+all_but P [] (x ∷ mine) older all = all_but P [] mine older all.1
+all_but P (x ∷ newer) mine older all = (all.0, all_but P newer mine older all.1)
+
+-- old rows are of keys that were written
+abbrev AreOf : List RowKey → List FileImage → Type 0
+AreOf keys images = AllByRecursion (λ (i : FileImage). is_written keys (pred i.image.table) i.image.key ≡ true) images
+
 pub write_adds_key : WriteAddsKey
-write_adds_key pages old new images keys w d t row can are s = record {
+write_adds_key pages old new chains slot chain keys w d t row can are s = record {
   marked = λ place key is. marked_on (place_of w.at) w.at.key d s.after (is_written (keys ++ w.at ∷ []) place key ≡ true) s.only place key is
       (λ at. written_last keys w.at place key at) (λ was. written_more keys w.at place key (are.marked place key was));
-  noted = subst (λ (l : List FileImage). AllByRecursion (λ (i : FileImage). is_written (keys ++ w.at ∷ []) (pred i.image.table) i.image.key ≡ true) l) (sym s.images) (newest, noted_more keys w.at d.images are.noted);
+  noted = subst (AreOf (keys ++ w.at ∷ [])) (sym s.images)
+      (all_among (λ (i : FileImage). is_written (keys ++ w.at ∷ []) (pred i.image.table) i.image.key ≡ true) s.image s.newer s.older newest
+      (subst (AreOf (keys ++ w.at ∷ [])) s.was (noted_more keys w.at d.images are.noted)));
   there = one_more s.after keys w.at (of_tables d s.after s.only.defs keys are.there)
       (of_table_on d.tables s.after.tables w.at d s.after refl refl s.only.defs (record { from = can.from; table = t; is_there = can.is_there }));
 }
   where
-    image : s.image.image ≡ old_image w.at w.old
-    image = first_image s.image.image (old_image w.at w.old) (images_of d) (images_of d) (sym (ap (map (λ (i : FileImage). i.image)) s.images) ∙ s.noted)
-
     newest : is_written (keys ++ w.at ∷ []) (pred s.image.image.table) s.image.image.key ≡ true
     newest =
-        ap (λ (i : OldImage). is_written (keys ++ w.at ∷ []) (pred i.table) i.key) image
+        ap (λ (i : OldImage). is_written (keys ++ w.at ∷ []) (pred i.table) i.key) s.image_is
         ∙ (λ i. is_written (keys ++ w.at ∷ []) (pred ((old_at w.at w.old).0 i)) ((old_at w.at w.old).1 i))
         ∙ written_last keys w.at (place_of w.at) w.at.key (same_key w.at)
 
@@ -118,20 +134,21 @@ same_place a b x y is = by (a == b) refl is
     by false at both = absurd (bad both)
 
 pub undo_adds_none : UndoAddsNone
-undo_adds_none pages new keys d are s = record {
+undo_adds_none pages new chains slot chain keys d are s = record {
   marked = λ place key is. marked_on (pred s.image.image.table) s.image.image.key d s.after (is_written keys place key ≡ true) s.only place key is
-      (λ at. let same = same_place (pred s.image.image.table) place s.image.image.key key at in (λ i. is_written keys (sym same.0 i) (sym same.1 i)) ∙ noted_now.0) (λ was. are.marked place key was);
-  noted = noted_now.1;
+      (λ at. let same = same_place (pred s.image.image.table) place s.image.image.key key at in (λ i. is_written keys (sym same.0 i) (sym same.1 i)) ∙ one_among (λ (i : FileImage). is_written keys (pred i.image.table) i.image.key ≡ true) s.image s.newer s.older noted_now) (λ was. are.marked place key was);
+  noted = subst (AreOf keys) (sym s.images) (all_but (λ (i : FileImage). is_written keys (pred i.image.table) i.image.key ≡ true) s.newer (s.image ∷ []) s.older noted_now);
   there = of_tables d s.after s.only.defs keys are.there;
 }
   where
-    noted_now : AllByRecursion (λ (i : FileImage). is_written keys (pred i.image.table) i.image.key ≡ true) (s.image ∷ s.after.images)
-    noted_now = subst (λ (l : List FileImage). AllByRecursion (λ (i : FileImage). is_written keys (pred i.image.table) i.image.key ≡ true) l) s.noted are.noted
+    noted_now : AreOf keys (s.newer ++ s.image ∷ s.older)
+    noted_now = subst (AreOf keys) s.was are.noted
 
 pub commit_adds_none : CommitAddsNone
-commit_adds_none pages new keys d are s = record {
+commit_adds_none pages new chains slot chain keys d are s = record {
   marked = λ place key is. are.marked place key (sym (ap (λ (tables : List FileTable). is_marked (stood key (slice_get tables place))) s.tables) ∙ is);
-  noted = subst (λ (l : List FileImage). AllByRecursion (λ (i : FileImage). is_written keys (pred i.image.table) i.image.key ≡ true) l) (sym s.none) tt;
+  noted = subst (AreOf keys) (sym s.images)
+      (all_but (λ (i : FileImage). is_written keys (pred i.image.table) i.image.key ≡ true) s.newer s.mine s.older (subst (AreOf keys) s.was are.noted));
   there = of_tables d s.after (ap (map def_of) s.tables) keys are.there;
 }
 
@@ -155,7 +172,7 @@ of_more d e last tables (at ∷ keys) all = (
 )
 
 pub create_adds_none : CreateAddsNone
-create_adds_none pages new keys def d are s = record {
+create_adds_none pages new chains keys def d are s = record {
   marked = λ place key is. are.marked place key (none_marked_in d.tables s.table place key s.empty (sym (ap (λ (tables : List FileTable). is_marked (stood key (slice_get tables place))) s.tables) ∙ is));
   noted = subst (λ (l : List FileImage). AllByRecursion (λ (i : FileImage). is_written keys (pred i.image.table) i.image.key ≡ true) l) (sym s.images) are.noted;
   there = of_more d s.after s.table s.tables keys are.there;
@@ -189,7 +206,7 @@ all_free d none (at ∷ keys) all = (
 )
 
 pub written_may_sweep : WrittenMaySweep
-written_may_sweep pages contents roots keys d kept roots_are none are = record { kept = kept; roots_are = roots_are; free = all_free d none keys are.there }
+written_may_sweep pages contents chains roots keys d kept roots_are none are = record { kept = kept; roots_are = roots_are; free = all_free d none keys are.there }
 
 -- each row of rows that rise is what is found at its key
 below_found : (low key : ℤ) (rows : List FileRow) (r : FileRow) → IsBelowEach row_key low rows → found row_key key rows ≡ Some r → int_lt low r.stored.key ≡ true
@@ -228,8 +245,8 @@ one_gone d (k ∷ keys) place key gone is = by ((place_of k == place) && int_eq 
     by true at h rest = let same = same_place (place_of k) place k.key key at in (λ i. is_marked (stood_at (sym same.0 i) (sym same.1 i) d)) ∙ gone.0
     by false at h rest = rest h
 
-swept_at : (pages : ℕ) (new : Contents) (keys : List RowKey) (d : Database) → AreWritten keys d → (s : SweptAll pages new keys d) → (place : ℕ) (key : ℤ) → is_marked (stood_at place key s.swept.after) ≡ false
-swept_at pages new keys d are s place key = by (is_marked (stood_at place key d)) refl
+swept_at : (pages : ℕ) (new : Contents) (chains : List Chain) (keys : List RowKey) (d : Database) → AreWritten keys d → (s : SweptAll pages new chains keys d) → (place : ℕ) (key : ℤ) → is_marked (stood_at place key s.swept.after) ≡ false
+swept_at pages new chains keys d are s place key = by (is_marked (stood_at place key d)) refl
   where
     by : (b : Bool) → is_marked (stood_at place key d) ≡ b → is_marked (stood_at place key s.swept.after) ≡ false
     by true was = one_gone s.swept.after keys place key s.gone (are.marked place key was)
@@ -240,10 +257,10 @@ all_places P [] each = tt
 all_places P (x ∷ xs) each = (each 0 x refl, all_places P xs (λ n y is. each (suc n) y is))
 
 pub sweep_leaves_none : SweepLeavesNone
-sweep_leaves_none pages new keys d are s =
+sweep_leaves_none pages new chains keys d are s =
     all_places (λ (t : FileTable). AllByRecursion (λ (r : FileRow). r.stored.marked ≡ false) t.rows) s.swept.after.tables
-    (λ place t there. each_found (λ (r : FileRow). r.stored.marked ≡ false) t.rows (rises_in pages new s.swept.after place t s.swept.kept there)
-    (λ r is. sym (ap is_marked (ap (stood r.stored.key) there ∙ is)) ∙ swept_at pages new keys d are s place r.stored.key))
+    (λ place t there. each_found (λ (r : FileRow). r.stored.marked ≡ false) t.rows (rises_in pages new s.swept.after place t s.swept.kept.holds.kept there)
+    (λ r is. sym (ap is_marked (ap (stood r.stored.key) there ∙ is)) ∙ swept_at pages new chains keys d are s place r.stored.key))
 
 -- ---- in any order
 

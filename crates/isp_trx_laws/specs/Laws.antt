@@ -1,8 +1,7 @@
 -- Laws of transactions on a kept file: the keys that are written, and a statement's steps.
-use Rattle.std.specs.Prelude.{◌≡◌, ◌<◌, ℕ, Bool, true, List, [], ◌∷◌, ◌++◌}
+use Rattle.std.specs.Prelude.{◌≡◌, ℕ, Bool, true, List, [], ◌∷◌, ◌++◌}
 use Rattle.std.specs.List.Sorted.{IsPermutation}
 use Rattle.isp_format.specs.Ranges.{Contents}
-use Rattle.isp_format.specs.Undo.{undo_slots}
 use Rattle.isp_plain.specs.declared.refusal.Refusal.{Refusal}
 use Rattle.isp_plain.specs.declared.statement.Statement.{Statement}
 use Rattle.isp_plain.specs.declared.value.Row.{Row}
@@ -58,12 +57,12 @@ StageBegins = (d : Database) (phase : Phase) → IsStageOf d.images d (stage_at 
 -- a change of a row, written in a file in which the slot alone has a chain
 abbrev pub StageWrites : Type 0
 StageWrites = (pages : ℕ) (new : Contents) (slot : ℕ) (chain : Chain) (before : List FileImage) (w : Write) (row : Row) (d : Database) (statement : Statement) (stage : Stage) (made : ℕ) (left : List RowChange)
-    → IsStageOf before d stage → stage.phase ≡ changing made (change_of w row ∷ left) → (s : Wrote pages new (alone slot chain) slot chain w row d) → slot < undo_slots → IsStageOf before s.after (after_step statement true stage)
+    → IsStageOf before d stage → stage.phase ≡ changing made (change_of w row ∷ left) → (s : Wrote pages new (alone slot chain) slot chain w row d) → IsStageOf before s.after (after_step statement true stage)
 
 -- the newest image put back, in the file
 abbrev pub StageUndoes : Type 0
 StageUndoes = (pages : ℕ) (new : Contents) (slot : ℕ) (chain : Chain) (before : List FileImage) (d : Database) (statement : Statement) (room : Bool) (stage : Stage) (refusal : Refusal) (image : RowChange) (noted : List RowChange)
-    → IsStageOf before d stage → stage.phase ≡ undoing refusal → stage.noted ≡ image ∷ noted → (s : Undid pages new (alone slot chain) slot chain d) → slot < undo_slots → IsStageOf before s.after (after_step statement room stage)
+    → IsStageOf before d stage → stage.phase ≡ undoing refusal → stage.noted ≡ image ∷ noted → (s : Undid pages new (alone slot chain) slot chain d) → IsStageOf before s.after (after_step statement room stage)
 
 -- a table more
 abbrev pub StageCreates : Type 0

@@ -1,5 +1,5 @@
 -- What a row that is written makes of a file.
-use Rattle.std.specs.Prelude.{◌≡◌, ℕ, ◌+◌, ◌-◌, ◌≤◌, nat_lt, Bool, true, false, List, ◌∷◌, length, slice_get, Option, Some, None, if◌then◌else◌}
+use Rattle.std.specs.Prelude.{◌≡◌, ℕ, ◌+◌, ◌-◌, ◌≤◌, nat_le, nat_lt, Bool, true, false, List, ◌∷◌, length, slice_get, Option, Some, None, if◌then◌else◌}
 use Rattle.std.specs.Option.{option_map}
 use Rattle.isp_catalog.specs.declared.table.TableDef.{TableDef}
 use Rattle.isp_changes.specs.Changes.{RowChange, after_change, image_of}
@@ -27,9 +27,14 @@ use Rattle.isp_tables.specs.Opened.{IsOpen}
 
 -- ---- bytes
 
--- the bytes that stand there, where they are no more than a row may have
+-- what stands there, if anything does, has no more bytes than a row may have
+abbrev pub is_short : Option Kept → Bool
+is_short None = true
+is_short (Some kept) = nat_le (length kept.row) row_limit
+
+-- the bytes that stand there
 abbrev pub IsCopyOf : Option Kept → Option (List ℕ) → Type 0
-IsCopyOf old found = (kept : Kept) → old ≡ Some kept → length kept.row ≤ row_limit → found ≡ Some kept.row
+IsCopyOf old found = (kept : Kept) → old ≡ Some kept → found ≡ Some kept.row
 
 -- bytes that spell the row, if it has no line feed
 abbrev pub SpellsNew : Schema → Row → Option (List ℕ) → Type 0

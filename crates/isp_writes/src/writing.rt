@@ -14,7 +14,7 @@ ghost use Rattle.isp_tables.specs.Calls.{Keeps};
 ghost use Rattle.isp_tables.specs.Opened.{IsAtPlace, IsOpen, IsWritable};
 ghost use Rattle.isp_work.specs.Works.{change_by};
 ghost use Rattle.isp_scan.specs.Readings.{IsPutRow};
-ghost use Rattle.isp_writes.specs.Writing.{IsBytesOf, IsCopyOf, MayWrite, Notes, WritesOrFull, WroteOrFull};
+ghost use Rattle.isp_writes.specs.Writing.{IsBytesOf, IsCopyOf, MayWrite, Notes, WritesOrFull, WroteOrFull, is_short};
 
 use isp_base::{Bytes, PageNo};
 use isp_catalog::TableDef;
@@ -29,18 +29,25 @@ use std::alloc::{AllocError, Global};
 // The most bytes that a row may have.
 const ROW_LIMIT: usize = 1_000;
 
-// A copy of the bytes that stand there, unless there are none or too many.
+// Whether what stands there, if anything does, has no more bytes than a row may have.
+fn is_short(old: &Option<Kept>) -> bool
+    ensures { result ≡ is_short old.now }
+{
+    match old {
+        Some(kept) => kept.row.as_slice().len() <= ROW_LIMIT,
+        None => true,
+    }
+}
+
+// A copy of the bytes that stand there, unless there are none.
 fn kept_bytes(alloc: Global, old: &Option<Kept>) -> Result<Option<Bytes>, AllocError>
+    requires few { IfSome old.now (λ kept. length kept.row ≤ most_slot) }
     ensures short { IfOk result (λ found. IfSome found (λ bytes. length bytes ≤ 1000)) }
     ensures same { IfOk result (IsCopyOf old.now) }
 {
     match old {
         Some(kept) => {
-            let bytes = kept.row.as_slice();
-            if bytes.len() > ROW_LIMIT {
-                return Ok(None);
-            }
-            let bytes = Bytes::from_slice(alloc, bytes)?;
+            let bytes = Bytes::from_slice(alloc, kept.row.as_slice())?;
             Ok(Some(bytes))
         }
         None => Ok(None),
@@ -56,6 +63,7 @@ fn bytes_for(
     old: &Option<Kept>,
 ) -> Result<Option<Bytes>, AllocError>
     requires row { deletes ≡ false → IsPutRow schema.now row.now }
+    requires few { IfSome old.now (λ kept. length kept.row ≤ most_slot) }
     ensures short { IfOk result (λ found. IfSome found (λ bytes. length bytes ≤ 1000)) }
     ensures bytes { IfOk result (IsBytesOf schema.now row.now deletes old.now) }
 {
@@ -109,8 +117,8 @@ fn write_bytes<P: Pages>(
 ///
 /// # Errors
 ///
-/// Disk; want of memory; or Damaged, as of the calls of isp_clustered and isp_space, or with the table's root and rule 7 where the
-/// row to be deleted isn't there.
+/// Disk; want of memory; or Damaged, as of the calls of isp_clustered, isp_space and isp_undo, or with the table's root: rule 8 where
+/// what stands at the key has more bytes than a row may have, rule 7 where the row to be deleted isn't there. Nothing is written then.
 pub fn write_row<P: Pages>(
     alloc: Global,
     pages: &mut P,
@@ -140,6 +148,12 @@ pub fn write_row<P: Pages>(
     trx.reserve(1)?;
     let key = key_of(row);
     let old = get(alloc, pages, def.root, key)?;
+    if !is_short(&old) {
+        return Err(Fault::Store(StoreFault::Damaged {
+            page: def.root.0,
+            rule: 8,
+        }));
+    }
     let at = RowKey {
         table: def.number,
         key,
