@@ -6,7 +6,6 @@ use Rattle.std.proofs.lemmas.List.{length-append, map-append}
 use Rattle.isp_base.specs.Lists.{times}
 use Rattle.isp_format.specs.Definition.{definition_page}
 use Rattle.isp_format.specs.Ranges.{Contents}
-use Rattle.isp_format.specs.Undo.{IsUndoDirectory}
 use Rattle.isp_page.specs.Touched.{KeepsPages, is_page}
 use Rattle.isp_plain.specs.Tables.{Table}
 use Rattle.isp_changes.specs.Changes.{RowChange, after_change, after_changes, changed_table, with_changed}
@@ -18,12 +17,16 @@ use Rattle.isp_space.specs.Spaces.{Space, taken}
 use Rattle.isp_clustered.specs.Calls.{IsCreated}
 use Rattle.isp_clustered.specs.Trees.{IsTree, one_leaf, pages_of}
 use Rattle.isp_clustered.proofs.TreeLaws.{tree_same}
-use Rattle.isp_image.specs.Courses.{adds}
 use Rattle.isp_image.specs.Databases.{Database, FileImage, FileTable, back_of, put_back, table_of, tables_of}
-use Rattle.isp_image.specs.Files.{IsFileImage, IsFileTable, KeptFile, Owner, Owns, OwnsSpace, is_known, is_owner, no_slots, of_table}
+use Rattle.isp_image.specs.Files.{IsFileImage, IsFileTable, KeptFile, Owner, Owns, OwnsSpace, is_known, is_owner, of_slot, of_table}
 use Rattle.isp_image.proofs.FileLaws.{def_of}
 use Rattle.isp_image.proofs.ListLaws.{all_of, get_below}
-use Rattle.isp_image.proofs.OwnerLaws.{after_takes, has_owner, known_more, next_from, next_owner, nobody_none, table_known, table_none, takes_grow, takes_known, takes_shared, takes_stay}
+use Rattle.isp_image.proofs.OwnerLaws.{after_takes, has_owner, known_more, next_from, next_owner, nobody_none, not_owned, table_known, table_none, takes_grow, takes_known, takes_shared, takes_stay}
+use Rattle.isp_undo.specs.Chains.{Chain}
+use Rattle.isp_chained.specs.Chained.{ChainedFile}
+use Rattle.isp_chained.specs.Courses.{adds}
+use Rattle.isp_chained.proofs.HoldLaws.{kept_chained, slot_somebody}
+use Rattle.isp_chained.proofs.OwnerLaws.{slot_table, slots_stay}
 use Rattle.isp_creating.specs.Creating.{CanCreate, Created, definitions}
 
 -- ---- one table behind the others
@@ -136,11 +139,11 @@ low_from number = omega arith
 suc_apart : (a b : ℕ) → a < b → suc b ≢ suc a
 suc_apart a b less same = let no_way : ⊥ = omega (arith, less, same) in no_way
 
-module _ (pages : ℕ) (old mid new : Contents) (d : Database) (def : TableDef) (can : CanCreate pages old def.number def.name d) (few : def.number ≤ 64)
+module _ (pages : ℕ) (old mid new : Contents) (chains : List Chain) (d : Database) (def : TableDef) (can : CanCreate pages old chains def.number def.name d) (few : def.number ≤ 64)
     (planted : IsCreated pages old mid def.number d.space def.root.0) (has : HasTables pages new (counted (taken d.space)) (definitions d ++ def ∷ []))
     (writes : KeepsPages (λ q. is_page 0 q || is_page (definition_page def.number) q) mid new) where
   abbrev pub kept : KeptFile pages old d
-  kept = can.kept
+  kept = can.kept.holds.kept
 
   fresh_from : 16 ≤ d.space.fresh
   fresh_from = kept.catalogue.space_is.fresh_from
@@ -254,10 +257,9 @@ module _ (pages : ℕ) (old mid new : Contents) (d : Database) (def : TableDef) 
   defs_after : map def_of (d.tables ++ table ∷ []) ≡ definitions d ++ def ∷ []
   defs_after = map-append def_of d.tables (table ∷ [])
 
-  pub kept_after : KeptFile pages new after
+  abbrev kept_after : KeptFile pages new after
   kept_after = record {
     catalogue = subst (λ (defs : List TableDef). HasTables pages new (counted (taken d.space)) defs) (sym defs_after) has;
-    directory = subst (λ (bytes : List ℕ). IsUndoDirectory bytes no_slots) (sym (keeps 1 directory_out)) kept.directory;
     each = each_behind (λ n u. IsFileTable pages new (suc n) u) d.tables table (λ m u got. stays m u got) here;
     noted = images_stay d.tables table d.images kept.noted;
     owner = owner;
@@ -265,21 +267,42 @@ module _ (pages : ℕ) (old mid new : Contents) (d : Database) (def : TableDef) 
     trees = each_behind (λ n (u : FileTable). Owns owner (of_table (suc n)) (pages_of u.tree)) d.tables table (λ m u got. theirs m u got) mine;
     known = known;
   }
+  -- ---- chains
+
+  directory_out : (is_page 0 1 || (is_page def.root.0 1 || is_page (definition_page def.number) 1)) ≡ false
+  directory_out =
+      let from = root_from in
+      let low = low_from def.number in
+      neither (is_page 0 1) (is_page def.root.0 1 || is_page (definition_page def.number) 1) refl
+      (neither (is_page def.root.0 1) (is_page (definition_page def.number) 1) (page_apart def.root.0 1 (λ is. omega (arith, is, from))) (page_apart (definition_page def.number) 1 (λ is. omega (arith, is, low))))
+
+  -- a page of a chain is none of the three
+  slot_out : (slot page : ℕ) → is_owner (of_slot slot) (owner page) ≡ true → (is_page 0 page || (is_page def.root.0 page || is_page (definition_page def.number) page)) ≡ false
+  slot_out slot page has =
+      neither (is_page 0 page) (is_page def.root.0 page || is_page (definition_page def.number) page) (page_apart 0 page (λ is. low (omega (arith, is))))
+      (neither (is_page def.root.0 page) (is_page (definition_page def.number) page) (page_apart def.root.0 page (λ is. taken_root is)) (page_apart (definition_page def.number) page (λ is. let below = low_page def.number few in low (omega (arith, is, below)))))
     where
-      directory_out : (is_page 0 1 || (is_page def.root.0 1 || is_page (definition_page def.number) 1)) ≡ false
-      directory_out =
-          let from = root_from in
-          let low = low_from def.number in
-          neither (is_page 0 1) (is_page def.root.0 1 || is_page (definition_page def.number) 1) refl
-          (neither (is_page def.root.0 1) (is_page (definition_page def.number) 1) (page_apart def.root.0 1 (λ is. omega (arith, is, from))) (page_apart (definition_page def.number) 1 (λ is. omega (arith, is, low))))
+      low : page < 16 → ⊥
+      low below = slot_somebody owner slot page has (shared.first page below)
+
+      taken_root : page ≡ def.root.0 → ⊥
+      taken_root is =
+          let none = not_owned owner (of_table (suc count)) (def.root.0 ∷ []) page mine (slot_table slot (suc count) (owner page) has) in
+          let same : (def.root.0 == page) ≡ true = grind (arith, is) in
+          let one : times page (def.root.0 ∷ []) ≡ 1 = ap (λ (b : Bool). (if b then 1 else 0) + 0) same in
+          let no_way : ⊥ = omega (arith, none, one) in no_way
+
+  chained_after : ChainedFile pages new after chains
+  chained_after = kept_chained pages old new d after chains can.kept kept_after refl (keeps 1 directory_out) (λ slot page has. keeps page (slot_out slot page has))
+      (λ slot xs had. slots_stay 1 d.space (suc count) slot kept.owner xs kept.shared fresh_from had)
 
   now : tables_of after ≡ with_empty (tables_of d) def.name def.schema
   now = map-append table_of d.tables (table ∷ [])
 
-  pub created : Created pages new def d
+  pub created : Created pages new chains def d
   created = record {
     after = after;
-    kept = kept_after;
+    kept = chained_after;
     table = table;
     def_is = refl;
     empty = refl;
@@ -311,8 +334,8 @@ length_map : (tables : List FileTable) → length (map def_of tables) ≡ length
 length_map [] = refl
 length_map (t ∷ tables) = ap suc (length_map tables)
 
-pub is_next : (pages : ℕ) (old : Contents) (d : Database) (def : TableDef) → CanCreate pages old def.number def.name d → IsNext (definitions d) def
-is_next pages old d def can = record {
+pub is_next : (pages : ℕ) (old : Contents) (chains : List Chain) (d : Database) (def : TableDef) → CanCreate pages old chains def.number def.name d → IsNext (definitions d) def
+is_next pages old chains d def can = record {
   number = let next = can.next in let long = length_map d.tables in omega (arith, next, long);
   new = can.new;
 }
@@ -323,19 +346,19 @@ tables_at pages pages_mid old mid d number root shape kept planted =
     subst (λ (n : ℕ). HasTables n mid (taken d.space) (definitions d)) (sym shape)
     (tables_between pages old mid d number root kept (subst (λ (n : ℕ). IsCreated n old mid number d.space root) shape planted))
 
-pub created_by : (pages pages_mid pages_new : ℕ) (old mid new : Contents) (d : Database) (def : TableDef) → pages_mid ≡ pages → pages_new ≡ pages → CanCreate pages old def.number def.name d → def.number ≤ 64
+pub created_by : (pages pages_mid pages_new : ℕ) (old mid new : Contents) (chains : List Chain) (d : Database) (def : TableDef) → pages_mid ≡ pages → pages_new ≡ pages → CanCreate pages old chains def.number def.name d → def.number ≤ 64
     → IsCreated pages_mid old mid def.number d.space def.root.0 → ((s : Space) (defs : List TableDef) → HasTables pages_mid mid s defs → IsNext defs def → HasTables pages_new new (counted s) (defs ++ def ∷ []))
-    → KeepsPages (λ q. is_page 0 q || is_page (definition_page def.number) q) mid new → Created pages new def d
-created_by pages pages_mid pages_new old mid new d def shape last can few planted added writes =
-    created pages old mid new d def can few (subst (λ (n : ℕ). IsCreated n old mid def.number d.space def.root.0) shape planted)
+    → KeepsPages (λ q. is_page 0 q || is_page (definition_page def.number) q) mid new → Created pages new chains def d
+created_by pages pages_mid pages_new old mid new chains d def shape last can few planted added writes =
+    created pages old mid new chains d def can few (subst (λ (n : ℕ). IsCreated n old mid def.number d.space def.root.0) shape planted)
     (subst (λ (n : ℕ). HasTables n new (counted (taken d.space)) (definitions d ++ def ∷ [])) last
-    (added (taken d.space) (definitions d) (tables_at pages pages_mid old mid d def.number def.root.0 shape can.kept planted) (is_next pages old d def can)))
+    (added (taken d.space) (definitions d) (tables_at pages pages_mid old mid d def.number def.root.0 shape can.kept.holds.kept planted) (is_next pages old chains d def can)))
     writes
 
 -- ---- contents that are the same
 
-pub can_moved : (pages pages_now : ℕ) (old now : Contents) (number : ℕ) (name : List ℕ) (d : Database) → pages_now ≡ pages → now ≡ old → CanCreate pages old number name d → CanCreate pages_now now number name d
-can_moved pages pages_now old now number name d shape same can = subst (λ (n : ℕ). CanCreate n now number name d) (sym shape) (subst (λ (c : Contents). CanCreate pages c number name d) (sym same) can)
+pub can_moved : (pages pages_now : ℕ) (old now : Contents) (chains : List Chain) (number : ℕ) (name : List ℕ) (d : Database) → pages_now ≡ pages → now ≡ old → CanCreate pages old chains number name d → CanCreate pages_now now chains number name d
+can_moved pages pages_now old now chains number name d shape same can = subst (λ (n : ℕ). CanCreate n now chains number name d) (sym shape) (subst (λ (c : Contents). CanCreate pages c chains number name d) (sym same) can)
 
-pub created_moved : (pages pages_now : ℕ) (new : Contents) (def : TableDef) (d : Database) → pages_now ≡ pages → Created pages_now new def d → Created pages new def d
-created_moved pages pages_now new def d shape is = subst (λ (n : ℕ). Created n new def d) shape is
+pub created_moved : (pages pages_now : ℕ) (new : Contents) (chains : List Chain) (def : TableDef) (d : Database) → pages_now ≡ pages → Created pages_now new chains def d → Created pages new chains def d
+created_moved pages pages_now new chains def d shape is = subst (λ (n : ℕ). Created n new chains def d) shape is

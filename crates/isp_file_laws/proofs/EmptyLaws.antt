@@ -3,6 +3,7 @@ use Rattle.std.proofs.Common.{◌≡◌, ℕ, zero, suc, ◌*◌, ◌^◌, ◌<�
 use Rattle.std.specs.Prelude.{All}
 use Rattle.std.specs.List.{flat_map}
 use Rattle.isp_disk.specs.Moments.{image_of, slice}
+use Rattle.isp_format.specs.Control.{IsPages}
 use Rattle.isp_format.specs.Empty.{empty_contents, first_fresh, first_header}
 use Rattle.isp_format.specs.Header.{header_of}
 use Rattle.isp_format.specs.Kinds.{content_place}
@@ -11,7 +12,9 @@ use Rattle.isp_format.specs.Space.{IsSpacePage, SpacePage, space_bytes, space_si
 use Rattle.isp_format.specs.Undo.{IsSlot, IsUndoDirectory, slot_bytes}
 use Rattle.isp_format.proofs.Slices.{slice_agree}
 use Rattle.isp_space.specs.Spaces.{space_page}
-use Rattle.isp_image.specs.Files.{Owner, OwnsSpace, nobody, no_slots}
+use Rattle.isp_image.specs.Files.{KeptFile, Owner, OwnsSpace, nobody}
+use Rattle.isp_chained.specs.Chained.{no_slots}
+use Rattle.isp_chained.proofs.PlainLaws.{plain_chained}
 use Rattle.isp_file_laws.specs.Kept.{empty_database, empty_space}
 use Rattle.isp_file_laws.specs.Laws.{EmptyIsKept, EmptyStandsForNone}
 
@@ -97,8 +100,12 @@ shared = record {
 none_there : {X : Type 0} (x : X) → None ≡ Some x → ⊥
 none_there x is = cc
 
-pub empty_is_kept : EmptyIsKept
-empty_is_kept pages contents many same = record {
+-- as these contents begin
+abbrev BeginsEmpty : Contents → Type 0
+BeginsEmpty contents = (place : ℕ) → place < first_fresh * page_bytes → contents place ≡ empty_contents place
+
+abbrev empty_kept : (pages : ℕ) (contents : Contents) → IsPages pages → BeginsEmpty contents → KeptFile pages contents empty_database
+empty_kept pages contents many same = record {
   catalogue = record {
     space_is = record {
       says = subst (λ (bytes : List ℕ). IsSpacePage bytes (space_page empty_space)) (sym (page_same contents 0 same (omega arith))) empty_says;
@@ -111,7 +118,6 @@ empty_is_kept pages contents many same = record {
     count = refl;
     catalogue = record { few = omega arith; each = tt; names = refl };
   };
-  directory = subst (λ (bytes : List ℕ). IsUndoDirectory bytes no_slots) (sym (page_same contents 1 same (omega arith))) empty_directory;
   each = λ place t is. absurd (none_there t is);
   noted = tt;
   owner = nobody_has;
@@ -120,10 +126,18 @@ empty_is_kept pages contents many same = record {
   known = λ page. refl;
 }
 
+pub empty_is_kept : EmptyIsKept
+empty_is_kept pages contents many same = plain_chained pages contents empty_database (record {
+  kept = empty_kept pages contents many same;
+  directory = subst (λ (bytes : List ℕ). IsUndoDirectory bytes no_slots) (sym (page_same contents 1 same (omega arith))) empty_directory;
+  none = refl;
+  slots = λ slot page. refl;
+})
+
 pub empty_stands_for_none : EmptyStandsForNone
 empty_stands_for_none image contents stands_for same = record {
   contents = contents;
   stands_for = stands_for;
-  stands = record { db = empty_database; kept = empty_is_kept _ contents stands_for.control.pages same; noted = refl; stand = refl };
+  stands = record { db = empty_database; kept = empty_is_kept _ contents stands_for.control.pages same; stand = refl };
   tidy = tt;
 }
