@@ -6,6 +6,7 @@ ghost use Rattle.isp_clustered.specs.declared.kept.Kept.{Kept};
 ghost use Rattle.isp_image.specs.Databases.{Database, FileTable};
 ghost use Rattle.isp_image.specs.Faults.{NamesLaterOrLacks};
 ghost use Rattle.isp_page.specs.Steps.{IsNoDamageOrLacks};
+ghost use Rattle.isp_plain.specs.RowBytes.{row_limit};
 ghost use Rattle.isp_plain.specs.declared.value.Row.{Row};
 ghost use Rattle.isp_trx.specs.Writes.{write_at};
 ghost use Rattle.isp_tables.specs.Calls.{Keeps};
@@ -17,6 +18,7 @@ ghost use Rattle.isp_writes.specs.Writing.{IsBytesOf, IsCopyOf, MayWrite, Notes,
 use isp_base::{Bytes, PageNo};
 use isp_catalog::TableDef;
 use isp_clustered::{Kept, get};
+use isp_format::{MOST_SLOT, TREE_RULE};
 use isp_page::{Fault, Pages, StoreFault};
 use isp_plain::{Row, Schema};
 use isp_scan::{key_of, spell};
@@ -24,18 +26,15 @@ use isp_space::has_room;
 use isp_trx::{RowKey, Trx};
 use std::alloc::{AllocError, Global};
 
-// The most bytes that a row may have.
-const ROW_LIMIT: usize = 1_000;
-
 // A copy of the bytes that stand there, unless there are none or too many.
 fn kept_bytes(alloc: Global, old: &Option<Kept>) -> Result<Option<Bytes>, AllocError>
-    ensures short { IfOk result (λ found. IfSome found (λ bytes. length bytes ≤ 1000)) }
+    ensures short { IfOk result (λ found. IfSome found (λ bytes. length bytes ≤ row_limit)) }
     ensures same { IfOk result (IsCopyOf old.now) }
 {
     match old {
         Some(kept) => {
             let bytes = kept.row.as_slice();
-            if bytes.len() > ROW_LIMIT {
+            if bytes.len() > MOST_SLOT {
                 return Ok(None);
             }
             let bytes = Bytes::from_slice(alloc, bytes)?;
@@ -54,7 +53,7 @@ fn bytes_for(
     old: &Option<Kept>,
 ) -> Result<Option<Bytes>, AllocError>
     requires row { deletes ≡ false → IsPutRow schema.now row.now }
-    ensures short { IfOk result (λ found. IfSome found (λ bytes. length bytes ≤ 1000)) }
+    ensures short { IfOk result (λ found. IfSome found (λ bytes. length bytes ≤ row_limit)) }
     ensures bytes { IfOk result (IsBytesOf schema.now row.now deletes old.now) }
 {
     if deletes {
@@ -77,7 +76,7 @@ fn write_bytes<P: Pages>(
     requires usable { P.usable pages.old ≡ true }
     requires none { (P.mini pages.old).is_begun ≡ false }
     requires page { root.0 < (P.shape pages.old).pages }
-    requires size { length bytes.now ≤ 1000 }
+    requires size { length bytes.now ≤ row_limit }
     requires spare { 1 ≤ trx.old.spare }
     ensures kept { Keeps P.Pages pages.old pages.new result }
     ensures mini { OnOk result ((P.mini pages.new).is_begun ≡ false) }
@@ -144,7 +143,7 @@ pub fn write_row<P: Pages>(
         Some(bytes) => write_bytes(pages, trx, def.root, at, old, bytes.as_slice(), deletes),
         None => Err(Fault::Store(StoreFault::Damaged {
             page: def.root.0,
-            rule: 7,
+            rule: TREE_RULE,
         })),
     }
 }
