@@ -2,6 +2,7 @@
 
 ghost use Rattle.std.specs.Prelude.{◌≡◌, ◌<◌, ℕ, List, slice_get, Some, true, false, IfErr, IfOk, OnOk};
 ghost use Rattle.isp_catalog.specs.declared.table.TableDef.{TableDef};
+ghost use Rattle.isp_format.specs.Rules.{catalogue_rule, space_number};
 ghost use Rattle.isp_image.specs.Databases.{Database, FileTable, shown};
 ghost use Rattle.isp_page.specs.Calls.{ContinuesOrLacks};
 ghost use Rattle.isp_page.specs.Steps.{IsNoDamageOrLacks};
@@ -20,6 +21,7 @@ ghost use Rattle.isp_image.specs.Faults.{NamesLaterOrLacks};
 ghost use Rattle.isp_work.specs.declared.phase.Phase.TheVariants as phase;
 
 use isp_catalog::TableDef;
+use isp_format::{CATALOGUE_RULE, SPACE_PAGE};
 use isp_page::{Fault, Pages, StoreFault};
 use isp_plain::{Refusal, Row};
 use isp_scan::{is_taken, key_of, read_rows};
@@ -31,9 +33,12 @@ use std::alloc::Global;
 
 // That no table stands at a place where one has to.
 fn no_table() -> Fault
-    ensures { result ≡ Store (Damaged 0 6) }
+    ensures { result ≡ Store (Damaged space_number catalogue_rule) }
 {
-    Fault::Store(StoreFault::Damaged { page: 0, rule: 6 })
+    Fault::Store(StoreFault::Damaged {
+        page: SPACE_PAGE,
+        rule: CATALOGUE_RULE,
+    })
 }
 
 // What is read for a statement.

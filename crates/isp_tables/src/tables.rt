@@ -6,6 +6,8 @@ ghost use Rattle.isp_catalog.specs.Catalogue.{HasTables};
 ghost use Rattle.isp_catalog.specs.declared.table.TableDef.{TableDef};
 ghost use Rattle.isp_page.specs.Calls.{ContinuesOrLacks};
 ghost use Rattle.isp_catalog.specs.Limits.{has_key};
+ghost use Rattle.isp_format.specs.Definition.{most_tables};
+ghost use Rattle.isp_format.specs.Rules.{catalogue_rule, space_number};
 ghost use Rattle.isp_image.specs.Faults.{NamesLaterOrLacks};
 ghost use Rattle.isp_page.specs.Steps.{IsNoDamageOrLacks};
 ghost use Rattle.isp_page.specs.declared.fault.Fault.TheVariants.{Store};
@@ -17,6 +19,7 @@ ghost use Rattle.isp_tables.specs.TableLists.{are_keyed, place_in, roots_of};
 
 use isp_base::{Name, PageNo};
 use isp_catalog::{TableDef, load};
+use isp_format::{CATALOGUE_RULE, SPACE_PAGE};
 use isp_page::{Fault, Pages, StoreFault};
 use isp_plain::{Column, Kind};
 use std::alloc::{AllocError, Global};
@@ -78,13 +81,16 @@ fn are_keyed(defs: &[TableDef]) -> bool
 fn keyed_or(defs: Vec<TableDef>) -> Result<Vec<TableDef>, Fault>
     ensures same { IfOk result (λ keyed. keyed.items ≡ defs.items) }
     ensures keyed { OnOk result (AreKeyed defs.items) }
-    ensures damaged { IfErr result (λ e. e ≡ Store (Damaged 0 6)) }
+    ensures damaged { IfErr result (λ e. e ≡ Store (Damaged space_number catalogue_rule)) }
     ensures sound { are_keyed defs.items ≡ true → IfErr result IsNoDamageOrLacks }
 {
     if are_keyed(defs.as_slice()) {
         Ok(defs)
     } else {
-        Err(Fault::Store(StoreFault::Damaged { page: 0, rule: 6 }))
+        Err(Fault::Store(StoreFault::Damaged {
+            page: SPACE_PAGE,
+            rule: CATALOGUE_RULE,
+        }))
     }
 }
 
@@ -124,7 +130,7 @@ impl Tables {
 
     /// The number of the next one.
     pub fn next_number(&self) -> u32
-        requires few { length self.now < 64 }
+        requires few { length self.now < most_tables }
         ensures { result ≡ length self.now + 1 }
     {
         self.defs.len() as u32 + 1

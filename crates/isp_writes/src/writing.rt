@@ -8,6 +8,7 @@ ghost use Rattle.isp_undo.specs.Chains.{Chain};
 ghost use Rattle.isp_image.specs.Databases.{Database, FileTable};
 ghost use Rattle.isp_image.specs.Faults.{NamesLaterOrLacks};
 ghost use Rattle.isp_page.specs.Steps.{IsNoDamageOrLacks};
+ghost use Rattle.isp_plain.specs.RowBytes.{row_limit};
 ghost use Rattle.isp_plain.specs.declared.value.Row.{Row};
 ghost use Rattle.isp_trx.specs.Writes.{write_at};
 ghost use Rattle.isp_tables.specs.Calls.{Keeps};
@@ -19,6 +20,7 @@ ghost use Rattle.isp_writes.specs.Writing.{IsBytesOf, IsCopyOf, MayWrite, Notes,
 use isp_base::{Bytes, PageNo};
 use isp_catalog::TableDef;
 use isp_clustered::{Kept, get};
+use isp_format::{MOST_SLOT, ROWS_RULE, TREE_RULE};
 use isp_page::{Fault, Pages, StoreFault};
 use isp_plain::{Row, Schema};
 use isp_scan::{key_of, spell};
@@ -26,15 +28,12 @@ use isp_space::has_room;
 use isp_trx::{RowKey, Trx};
 use std::alloc::{AllocError, Global};
 
-// The most bytes that a row may have.
-const ROW_LIMIT: usize = 1_000;
-
 // Whether what stands there, if anything does, has no more bytes than a row may have.
 fn is_short(old: &Option<Kept>) -> bool
     ensures { result ≡ is_short old.now }
 {
     match old {
-        Some(kept) => kept.row.as_slice().len() <= ROW_LIMIT,
+        Some(kept) => kept.row.as_slice().len() <= MOST_SLOT,
         None => true,
     }
 }
@@ -42,7 +41,7 @@ fn is_short(old: &Option<Kept>) -> bool
 // A copy of the bytes that stand there, unless there are none.
 fn kept_bytes(alloc: Global, old: &Option<Kept>) -> Result<Option<Bytes>, AllocError>
     requires few { IfSome old.now (λ kept. length kept.row ≤ most_slot) }
-    ensures short { IfOk result (λ found. IfSome found (λ bytes. length bytes ≤ 1000)) }
+    ensures short { IfOk result (λ found. IfSome found (λ bytes. length bytes ≤ row_limit)) }
     ensures same { IfOk result (IsCopyOf old.now) }
 {
     match old {
@@ -64,7 +63,7 @@ fn bytes_for(
 ) -> Result<Option<Bytes>, AllocError>
     requires row { deletes ≡ false → IsPutRow schema.now row.now }
     requires few { IfSome old.now (λ kept. length kept.row ≤ most_slot) }
-    ensures short { IfOk result (λ found. IfSome found (λ bytes. length bytes ≤ 1000)) }
+    ensures short { IfOk result (λ found. IfSome found (λ bytes. length bytes ≤ row_limit)) }
     ensures bytes { IfOk result (IsBytesOf schema.now row.now deletes old.now) }
 {
     if deletes {
@@ -87,7 +86,7 @@ fn write_bytes<P: Pages>(
     requires usable { P.usable pages.old ≡ true }
     requires none { (P.mini pages.old).is_begun ≡ false }
     requires page { root.0 < (P.shape pages.old).pages }
-    requires size { length bytes.now ≤ 1000 }
+    requires size { length bytes.now ≤ row_limit }
     requires short { IfSome old.now (λ kept. length kept.row ≤ most_slot) }
     requires spare { 1 ≤ trx.old.spare }
     ensures kept { Keeps P.Pages pages.old pages.new result }
@@ -151,7 +150,7 @@ pub fn write_row<P: Pages>(
     if !is_short(&old) {
         return Err(Fault::Store(StoreFault::Damaged {
             page: def.root.0,
-            rule: 8,
+            rule: ROWS_RULE,
         }));
     }
     let at = RowKey {
@@ -162,7 +161,7 @@ pub fn write_row<P: Pages>(
         Some(bytes) => write_bytes(pages, trx, def.root, at, &old, bytes.as_slice(), deletes),
         None => Err(Fault::Store(StoreFault::Damaged {
             page: def.root.0,
-            rule: 7,
+            rule: TREE_RULE,
         })),
     }
 }

@@ -1,4 +1,4 @@
-use Rattle.std.proofs.Common.{ℕ, length, refl, sym, ◌∙◌, ap, subst}
+use Rattle.std.proofs.Common.{rules, ℕ, length, refl, sym, ◌∙◌, ap, subst}
 use Rattle.std.specs.Prelude.{nat_lt}
 use Rattle.isp_page.specs.State.{FileShape}
 use Rattle.isp_work.specs.Works.{failed_by}
@@ -9,6 +9,11 @@ use Rattle.isp_writes.specs.Writing.{UndidOrNot}
 use Rattle.isp_exec.proofs.AtLaws.{undo_at}
 use Rattle.isp_exec.proofs.StatementLaws.{failed_keeps}
 use Rattle.isp_exec.proofs.stepping.step_undoing.Goals as goal
+
+pub returns-in_err-undo_newest-clause-sound : goal.returns-in_err-undo_newest-clause-sound
+returns-in_err-undo_newest-clause-sound g c tells start at =
+    let sound = c.in_err-undo_newest.ensures.sound tells at.db at.opened in
+    search (rules, sound, c.from_residual.ensures)
 
 pub returns-clause-stands : goal.returns-clause-stands
 returns-clause-stands g c tells start at =
