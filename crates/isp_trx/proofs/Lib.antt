@@ -7,3 +7,4 @@ pub mod RootLaws
 pub mod RowLaws
 pub mod SweepLaws
 pub mod UndoLaws
+pub mod WriteLaws
