@@ -313,7 +313,7 @@ pub put_none_on : {T E : Type 0} (result : Result T E) (pages pages_now : ℕ) (
     → ((table : ℕ) (tree : Tree) → IsTree pages old table root tree → OnOk result (IsEdited pages_now old new table root tree (marked_at key))) → OnOk result (PutsBack pages old root image new)
 put_none_on (Ok x) pages pages_now old new image root key key_is shape none call = record {
   makes = λ table tree is. subst (λ (b : Bool). IsEdited pages old new table root tree (if b then marked_at image.key else with_row image.key image.row (image.kind == marked_kind))) (sym (is_absent image.kind none))
-  (subst (λ (k : ℤ). IsEdited pages old new table root tree (marked_at k)) key_is (subst (λ (n : ℕ). IsEdited n old new table root tree (marked_at key)) shape (call table tree is)));
+      (subst (λ (k : ℤ). IsEdited pages old new table root tree (marked_at k)) key_is (subst (λ (n : ℕ). IsEdited n old new table root tree (marked_at key)) shape (call table tree is)));
 }
 put_none_on (Err e) pages pages_now old new image root key key_is shape none call = tt
 
@@ -321,9 +321,9 @@ pub put_row_on : {T E : Type 0} (result : Result T E) (pages pages_now : ℕ) (o
     → ((table : ℕ) (tree : Tree) → IsTree pages old table root tree → OnOk result (IsEdited pages_now old new table root tree (with_row key bytes (image.kind == marked_kind)))) → OnOk result (PutsBack pages old root image new)
 put_row_on (Ok x) pages pages_now old new image root key bytes key_is bytes_are shape some call = record {
   makes = λ table tree is. subst (λ (b : Bool). IsEdited pages old new table root tree (if b then marked_at image.key else with_row image.key image.row (image.kind == marked_kind))) (sym (is_there image.kind some))
-  (subst (λ (k : ℤ). IsEdited pages old new table root tree (with_row k image.row (image.kind == marked_kind))) key_is
-  (subst (λ (row : List ℕ). IsEdited pages old new table root tree (with_row key row (image.kind == marked_kind))) bytes_are
-  (subst (λ (n : ℕ). IsEdited n old new table root tree (with_row key bytes (image.kind == marked_kind))) shape (call table tree is))));
+      (subst (λ (k : ℤ). IsEdited pages old new table root tree (with_row k image.row (image.kind == marked_kind))) key_is
+      (subst (λ (row : List ℕ). IsEdited pages old new table root tree (with_row key row (image.kind == marked_kind))) bytes_are
+      (subst (λ (n : ℕ). IsEdited n old new table root tree (with_row key bytes (image.kind == marked_kind))) shape (call table tree is))));
 }
 put_row_on (Err e) pages pages_now old new image root key bytes key_is bytes_are shape some call = tt
 
