@@ -1,5 +1,5 @@
 -- Files of which one slot alone has a chain.
-use Rattle.std.proofs.Common.{◌≡◌, ◌≢◌, ℕ, zero, suc, ◌<◌, List, [], ◌∷◌, ◌++◌, drop, map, reverse, take, Some, refl, sym, ◌∙◌, ap, subst}
+use Rattle.std.proofs.Common.{◌≡◌, ◌≢◌, ℕ, zero, suc, ◌<◌, List, [], ◌∷◌, ◌++◌, drop, reverse, take, Some, refl, sym, ◌∙◌, ap, subst}
 use Rattle.std.specs.Prelude.{replicate, slice_get, slice_set}
 use Rattle.std.specs.List.{list_any}
 use Rattle.std.proofs.lemmas.List.{append-nil}
@@ -8,7 +8,7 @@ use Rattle.isp_image.proofs.ListLaws.{get_other, get_set, set_set}
 use Rattle.isp_undo.specs.Chains.{Chain, images_of}
 use Rattle.isp_chained.specs.Chained.{alone, images_in, no_chains}
 use Rattle.isp_chained.specs.Laws.{AloneIsNone, AloneIsOne, newer_of, older_of}
-use Rattle.isp_chained.specs.Steps.{AreApart, AreDisjoint, IsFreeIn, are_of_one}
+use Rattle.isp_chained.specs.Steps.{AreApart, AreDisjoint, are_of_one}
 use Rattle.isp_chained.proofs.DisjointLaws.{apart_none, disjoint_set}
 use Rattle.isp_chained.proofs.OrderLaws.{stands_in_order}
 use Rattle.isp_chained.proofs.PlainLaws.{no_images, none_of, slot_there}

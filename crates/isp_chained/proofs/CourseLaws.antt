@@ -1,5 +1,5 @@
 -- Courses go on, and one behind the other is one.
-use Rattle.std.proofs.Common.{◌≡◌, ℕ, List, [], ◌∷◌, ◌++◌, refl, sym, subst}
+use Rattle.std.proofs.Common.{ℕ, List, [], ◌∷◌, ◌++◌, refl, subst}
 use Rattle.isp_image.specs.Databases.{Database}
 use Rattle.isp_chained.specs.Courses.{Course, IsKept, Reaches, Step}
 use Rattle.isp_chained.specs.Laws.{CourseGoesOn}

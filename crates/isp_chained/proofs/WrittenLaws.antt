@@ -164,6 +164,7 @@ stood_image place key db = image_of place key (stood_at place key db)
 pub record WrittenFile (pages : ℕ) (new : Contents) (db : Database) (chains : List Chain) (slot : ℕ) (after : Chain) (place : ℕ) (key : ℤ) (row : FileRow) (now : FileTable) (space : Space) : Type 0 where
   pub newer : List FileImage
   pub older : List FileImage
+  pub newer_are : map old_of newer ≡ newer_of slot chains
   pub file : ChainedFile pages new (with_table db place now space (newer ++ stood_image place key db ∷ older)) (slice_set chains slot after)
   pub notes : NotesAmong place key row newer older db (with_table db place now space (newer ++ stood_image place key db ∷ older))
 
@@ -199,6 +200,7 @@ written_file pages old mid new db chains slot chain place t tree key row count b
     record {
       newer = d.front;
       older = d.rest;
+      newer_are = d.front_are;
       file = record {
         holds = holds;
         noted = map_both d.front (stood_image place key db ∷ d.rest) ∙ (λ k. d.front_are k ++ image ∷ d.rest_are k) ∙ sym (pushing_notes chains slot chain after image is (pushed_images (next_free db.space) image chain));
@@ -213,13 +215,6 @@ written_file pages old mid new db chains slot chain place t tree key row count b
     }
 
 -- ---- the newest old row of a slot is put back
-
-pub record UndoneFile (pages : ℕ) (new : Contents) (db : Database) (chains : List Chain) (slot : ℕ) (after : Chain) (place : ℕ) (key : ℤ) (row : FileRow) (now : FileTable) (space : Space) : Type 0 where
-  pub newer : List FileImage
-  pub image : FileImage
-  pub older : List FileImage
-  pub file : ChainedFile pages new (with_table db place now space (newer ++ older)) (slice_set chains slot after)
-  pub undoes : UndoesAmong place key row newer image older db (with_table db place now space (newer ++ older))
 
 -- the newest old row of a slot among all
 pub record NewestOf (images : List FileImage) (first : List OldImage) (newest : OldImage) (second : List OldImage) : Type 0 where
@@ -252,19 +247,22 @@ but_last [] newest = refl
 but_last (i ∷ []) newest = refl
 but_last (i ∷ j ∷ images) newest = ap (λ (images : List OldImage). i ∷ images) (but_last (j ∷ images) newest)
 
+pub record UndoneFile (pages : ℕ) (new : Contents) (db : Database) (chains : List Chain) (slot : ℕ) (after : Chain) (place : ℕ) (key : ℤ) (row : FileRow) (now : FileTable) (space : Space) (newer : List FileImage) (image : FileImage) (older : List FileImage) : Type 0 where
+  pub file : ChainedFile pages new (with_table db place now space (newer ++ older)) (slice_set chains slot after)
+  pub undoes : UndoesAmong place key row newer image older db (with_table db place now space (newer ++ older))
+
 pub undone_file : (pages : ℕ) (old mid new : Contents) (db : Database) (chains : List Chain) (slot : ℕ) (chain : Chain) (images : List OldImage) (newest : OldImage) (place : ℕ) (t : FileTable) (tree : Tree) (key : ℤ) (row : FileRow) (count bytes : ℕ)
-    → ChainedFile pages old db chains → slice_get chains slot ≡ Some chain → images_of chain ≡ images ++ newest ∷ [] → newest.table ≡ suc place → newest.key ≡ key → IsFreeIn newest slot chains
+    → ChainedFile pages old db chains → slice_get chains slot ≡ Some chain → images_of chain ≡ images ++ newest ∷ [] → (n : NewestOf db.images (newer_of slot chains) newest (reverse images ++ older_of slot chains)) → newest.table ≡ suc place → newest.key ≡ key → IsFreeIn newest slot chains
     → (let s = space_now count bytes db.space in
     let now = table_now t tree (placed row_key key (Some row) t.rows) in
     slice_get db.tables place ≡ Some t → Regrown pages old mid db place t tree (placed row_key key (Some row) t.rows) count bytes → row.stored.key ≡ key → ((r : FileRow) → found row_key key t.rows ≡ Some r → slot_of r.stored ≤ slot_of row.stored)
-    → ((i : FileImage) → i.image ≡ newest → IsFileImage db.tables i → back_of i ≡ change_at place key (Some row))
+    → back_of n.image ≡ change_at place key (Some row)
     → Restacks pages mid new (map ends_of chains) slot chain (popped chain) (with_chain (gone chain) s) []
-    → UndoneFile pages new db chains slot (popped chain) place key row now (with_chain (gone chain) s))
-undone_file pages old mid new db chains slot chain images newest place t tree key row count bytes file is newest_is table_is key_is free there change at slots back call =
+    → UndoneFile pages new db chains slot (popped chain) place key row now (with_chain (gone chain) s) n.front n.image n.rest)
+undone_file pages old mid new db chains slot chain images newest place t tree key row count bytes file is newest_is n table_is key_is free there change at slots back call =
     let s : Space = space_now count bytes db.space in
     let rows : List FileRow = placed row_key key (Some row) t.rows in
     let now : FileTable = table_now t tree rows in
-    let n = newest_among db.images (newer_of slot chains) newest (reverse images ++ older_of slot chains) (file.noted ∙ slot_newest chains slot chain images newest is newest_is) in
     let noted = all_back (IsFileImage db.tables) n.front (n.image ∷ n.rest) (subst (λ (images : List FileImage). AllByRecursion (IsFileImage db.tables) images) n.is file.holds.kept.noted) in
     let rises = rises_in pages old db place t file.holds.kept there in
     let left : List FileImage = n.front ++ n.rest in
@@ -273,9 +271,6 @@ undone_file pages old mid new db chains slot chain images newest place t tree ke
     let holds = popped_holds pages mid new (with_table db place now s left) chains slot chain changed is call in
     let less : images_of (popped chain) ≡ images = popped_images chain ∙ ap without_last newest_is ∙ but_last images newest in
     record {
-      newer = n.front;
-      image = n.image;
-      older = n.rest;
       file = record {
         holds = holds;
         noted = map_both n.front n.rest ∙ (λ k. n.front_are k ++ n.rest_are k) ∙ sym (stands_in_order chains slot chain (popped chain) is ∙ ap (λ (mine : List OldImage). newer_of slot chains ++ (reverse mine ++ older_of slot chains)) less);
@@ -285,7 +280,7 @@ undone_file pages old mid new db chains slot chain images newest place t tree ke
         exchanges = record { table = t; is_there = there; tree = tree; tables = refl };
         was = n.is;
         noted = refl;
-        back = back n.image n.image_is noted.1.0;
+        back = back;
         free = unnamed_of place key newest n.front table_is key_is (subst (λ (images : List OldImage). list_any (are_of_one newest) images ≡ false) (sym n.front_are) (newer_free (are_of_one newest) chains slot free));
       };
     }
@@ -296,10 +291,12 @@ undone_file pages old mid new db chains slot chain images newest place t tree ke
 
 -- ---- the old rows of a slot go
 
-pub record FinishedFile (pages : ℕ) (new : Contents) (db : Database) (chains : List Chain) (slot : ℕ) (space : Space) : Type 0 where
+pub record FinishedFile (pages : ℕ) (new : Contents) (db : Database) (chains : List Chain) (slot : ℕ) (chain : Chain) (space : Space) : Type 0 where
   pub newer : List FileImage
   pub mine : List FileImage
   pub older : List FileImage
+  pub newer_are : map old_of newer ≡ newer_of slot chains
+  pub mine_are : map old_of mine ≡ reverse (images_of chain)
   pub file : ChainedFile pages new (record { space = space; tables = db.tables; images = newer ++ older }) (slice_set chains slot [])
   pub finishes : FinishesAmong newer mine older db (record { space = space; tables = db.tables; images = newer ++ older })
 
@@ -363,7 +360,7 @@ named_at place key i is = (table_at i.image.table (suc place) (first (i.image.ta
     key_at a b is = grind (arith, ints, is)
 
 pub finished_file : (pages : ℕ) (old new : Contents) (db : Database) (chains : List Chain) (slot : ℕ) (chain : Chain) → ChainedFile pages old db chains → AreDisjoint chains → slice_get chains slot ≡ Some chain
-    → Restacks pages old new (map ends_of chains) slot chain [] (with_chain (pages_of chain) db.space) [] → FinishedFile pages new db chains slot (with_chain (pages_of chain) db.space)
+    → Restacks pages old new (map ends_of chains) slot chain [] (with_chain (pages_of chain) db.space) [] → FinishedFile pages new db chains slot chain (with_chain (pages_of chain) db.space)
 finished_file pages old new db chains slot chain file apart is call =
     let s : Space = with_chain (pages_of chain) db.space in
     let d = divided db.images (newer_of slot chains) (reverse (images_of chain) ++ older_of slot chains) (file.noted ∙ in_order chains slot chain is) in
@@ -379,6 +376,8 @@ finished_file pages old new db chains slot chain file apart is call =
       newer = d.front;
       mine = e.front;
       older = e.rest;
+      newer_are = d.front_are;
+      mine_are = e.front_are;
       file = record {
         holds = holds;
         noted = map_both d.front e.rest ∙ (λ k. d.front_are k ++ e.rest_are k) ∙ sym (stands_in_order chains slot chain [] is);

@@ -1,40 +1,51 @@
--- A commit: the old rows are noted no more.
-use Rattle.std.proofs.Common.{◌≡◌, ℕ, [], refl, sym, subst}
+-- A commit: the chain of a slot is finished, and its old rows are noted no more.
+use Rattle.std.proofs.Common.{◌≡◌, ℕ, List, [], ◌++◌, map, refl, sym, subst}
 use Rattle.isp_format.specs.Ranges.{Contents}
-use Rattle.isp_image.specs.Courses.{IsCommitted, commits}
+use Rattle.isp_space.specs.Giving.{with_chain}
+use Rattle.isp_space.specs.Spaces.{Space}
+use Rattle.isp_undo.specs.Calls.{HasStack, Restacks}
+use Rattle.isp_undo.specs.Chains.{Chain, ends_of, pages_of}
 use Rattle.isp_image.specs.Databases.{Database}
-use Rattle.isp_image.specs.Files.{KeptFile}
-use Rattle.isp_image.proofs.StepLaws.{committed_now, committed_stand}
-use Rattle.isp_trx.specs.Writes.{Commits, DidCommit}
+use Rattle.isp_chained.specs.Courses.{finishes}
+use Rattle.isp_chained.proofs.DatabaseLaws.{finished_rows}
+use Rattle.isp_chained.proofs.SlotLaws.{stack_of}
+use Rattle.isp_chained.proofs.WrittenLaws.{finished_file}
+use Rattle.isp_trx.specs.Writes.{CanCommit, Commits, DidCommit}
 
-abbrev without_images : Database → Database
-without_images d = record { space = d.space; tables = d.tables; images = [] }
+pub did_commit : (pages : ℕ) (old new : Contents) (chains : List Chain) (slot : ℕ) (chain : Chain) (d : Database) → CanCommit pages old chains slot chain d
+    → Restacks pages old new (map ends_of chains) slot chain [] (with_chain (pages_of chain) d.space) [] → DidCommit pages new chains slot chain d
+did_commit pages old new chains slot chain d can call =
+    let f = finished_file pages old new d chains slot chain can.kept can.disjoint can.own call in
+    let after : Database = record { space = with_chain (pages_of chain) d.space; tables = d.tables; images = f.newer ++ f.older } in
+    record {
+      after = after;
+      kept = f.file;
+      newer = f.newer;
+      mine = f.mine;
+      older = f.older;
+      was = f.finishes.was;
+      images = refl;
+      newer_are = f.newer_are;
+      mine_are = f.mine_are;
+      tables = refl;
+      finishing = finished_rows pages old d after chains f.newer f.mine f.older can.kept.holds f.finishes;
+      step = finishes f.newer f.mine f.older (record { finishes = f.finishes; gone = pages_of chain; space = refl });
+    }
 
-kept_without : (pages : ℕ) (contents : Contents) (d : Database) → KeptFile pages contents d → KeptFile pages contents (without_images d)
-kept_without pages contents d kept = record {
-  catalogue = kept.catalogue;
-  directory = kept.directory;
-  each = kept.each;
-  noted = tt;
-  owner = kept.owner;
-  shared = kept.shared;
-  trees = kept.trees;
-  known = kept.known;
+-- what the call on the chain stands on
+pub may_finish : (pages pages_now : ℕ) (old now : Contents) (chains : List Chain) (slot : ℕ) (chain : Chain) (d : Database) → pages_now ≡ pages → now ≡ old → CanCommit pages old chains slot chain d → HasStack pages_now now (map ends_of chains) slot chain d.space
+may_finish pages pages_now old now chains slot chain d shape same can =
+    subst (λ (n : ℕ). HasStack n now (map ends_of chains) slot chain d.space) (sym shape) (subst (λ (c : Contents). HasStack pages c (map ends_of chains) slot chain d.space) (sym same) (stack_of pages old d chains slot chain can.kept.holds can.own))
+
+pub commits_of : (pages pages_mid pages_now : ℕ) (old mid new : Contents) (slot : ℕ) → pages_mid ≡ pages → pages_now ≡ pages → mid ≡ old
+    → ((slots : List (ℕ × ℕ)) (chain : Chain) (s : Space) → HasStack pages_mid mid slots slot chain s → Restacks pages_now mid new slots slot chain [] (with_chain (pages_of chain) s) []) → Commits pages old slot new
+commits_of pages pages_mid pages_now old mid new slot shape shape_now same call = record {
+  makes = λ chains chain d can.
+      let done = call (map ends_of chains) chain d.space (may_finish pages pages_mid old mid chains slot chain d shape same can) in
+      did_commit pages old new chains slot chain d can
+      (subst (λ (n : ℕ). Restacks n old new (map ends_of chains) slot chain [] (with_chain (pages_of chain) d.space) []) shape_now
+      (subst (λ (c : Contents). Restacks pages_now c new (map ends_of chains) slot chain [] (with_chain (pages_of chain) d.space) []) same done));
 }
 
-is_committed : (d : Database) → IsCommitted d (without_images d)
-is_committed d = record { tables = refl; images = refl; space = refl }
-
-did_commit : (pages : ℕ) (contents : Contents) (d : Database) → KeptFile pages contents d → DidCommit pages contents d
-did_commit pages contents d kept = record {
-  after = without_images d;
-  kept = kept_without pages contents d kept;
-  none = refl;
-  tables = refl;
-  now = committed_now d (without_images d) (is_committed d);
-  same = committed_stand d (without_images d) (is_committed d);
-  step = commits (is_committed d);
-}
-
-pub commits_all : (pages : ℕ) (old new : Contents) → new ≡ old → Commits pages old new
-commits_all pages old new same = record { makes = λ d kept. subst (λ (c : Contents). DidCommit pages c d) (sym same) (did_commit pages old d kept) }
+pub can_commit_is : (pages : ℕ) (old : Contents) (chains : List Chain) (slot own : ℕ) (chain : Chain) (d : Database) → slot ≡ own → CanCommit pages old chains own chain d → CanCommit pages old chains slot chain d
+can_commit_is pages old chains slot own chain d is can = subst (λ (n : ℕ). CanCommit pages old chains n chain d) (sym is) can

@@ -2,7 +2,9 @@ pub mod CommitLaws
 pub mod LoopLaws
 pub mod Makes
 pub mod MoreMakes
+pub mod PartLaws
 pub mod RootLaws
+pub mod RowLaws
 pub mod SweepLaws
 pub mod UndoLaws
 pub mod WriteLaws

@@ -4,11 +4,12 @@ use Rattle.std.specs.Prelude.{Result, Ok, Err, OnOk, slice_get}
 use Rattle.std.specs.List.{AllByRecursion}
 use Rattle.std.proofs.lemmas.List.{take_more}
 use Rattle.isp_format.specs.Ranges.{Contents}
+use Rattle.isp_undo.specs.Chains.{Chain}
 use Rattle.isp_image.specs.Databases.{Database}
 use Rattle.isp_trx.specs.Laws.{IsOneOf}
 use Rattle.isp_clustered.specs.Trees.{IsTree, Tree}
 use Rattle.isp_trx.specs.Writes.{CanSweep, IsFree, Sweeps, SweepsAt, SweepsSome, place_of}
-use Rattle.isp_trx.specs.declared.noted.RowKey.{RowKey}
+use Rattle.isp_trx.specs.declared.keys.RowKey.{RowKey}
 use Rattle.isp_trx.proofs.SweepLaws.{can_sweep_on, sweeps_more, tree_of}
 
 all_at : {X : Type 0} (P : X → Type 0) (xs : List X) (i : ℕ) (d : X) → i < length xs → AllByRecursion P xs → P (get_or xs i d)
@@ -30,11 +31,11 @@ module _ (pages pages_now : ℕ) (old mid : Contents) (roots : List ℕ) (keys :
   next_some new next = record { count = i + 1; sweeps = next_swept new next }
 
   -- the next key may be swept
-  pub next_can : (db : Database) → CanSweep pages old roots keys db → (now : Database) × CanSweep pages_now mid roots (at ∷ []) now
-  next_can db can =
-      let s = so_far.makes db can in
-      let now = can_sweep_on pages old mid roots keys db can s.swept in
-      (s.swept.after, subst (λ (n : ℕ). CanSweep n mid roots (at ∷ []) s.swept.after) (sym shape) (record { kept = now.kept; roots_are = now.roots_are; free = (one_of s.swept.after now.free, tt) }))
+  pub next_can : (chains : List Chain) (db : Database) → CanSweep pages old chains roots keys db → (now : Database) × CanSweep pages_now mid chains roots (at ∷ []) now
+  next_can chains db can =
+      let s = so_far.makes chains db can in
+      let now = can_sweep_on pages old mid chains roots keys db can s.swept in
+      (s.swept.after, subst (λ (n : ℕ). CanSweep n mid chains roots (at ∷ []) s.swept.after) (sym shape) (record { kept = now.kept; roots_are = now.roots_are; free = (one_of s.swept.after now.free, tt) }))
 
 -- ---- one key
 
@@ -46,12 +47,12 @@ pub key_swept : {T E : Type 0} (result : Result T E) (pages : ℕ) (old new : Co
 key_swept result pages old new roots root at here swept = on_ok (SweepsAt pages old root at new) (Sweeps pages old roots (at ∷ []) (at ∷ []) new) result (λ s. s.makes roots here) swept
 
 -- its table has a root
-pub key_there : (pages : ℕ) (old : Contents) (roots : List ℕ) (at : RowKey) (db : Database) → CanSweep pages old roots (at ∷ []) db → (root : ℕ) × (1 ≤ at.table) × (slice_get roots (place_of at) ≡ Some root)
-key_there pages old roots at db can = (can.free.0.table.def.root.0, can.free.0.from, can.roots_are (place_of at) can.free.0.table can.free.0.is_there)
+pub key_there : (pages : ℕ) (old : Contents) (chains : List Chain) (roots : List ℕ) (at : RowKey) (db : Database) → CanSweep pages old chains roots (at ∷ []) db → (root : ℕ) × (1 ≤ at.table) × (slice_get roots (place_of at) ≡ Some root)
+key_there pages old chains roots at db can = (can.free.0.table.def.root.0, can.free.0.from, can.roots_are (place_of at) can.free.0.table can.free.0.is_there)
 
 -- and a tree there
-pub key_tree : (pages : ℕ) (old : Contents) (roots : List ℕ) (root : ℕ) (at : RowKey) (db : Database) → CanSweep pages old roots (at ∷ []) db → slice_get roots (place_of at) ≡ Some root → (tree : Tree) × IsTree pages old (suc (place_of at)) root tree
-key_tree pages old roots root at db can here =
+pub key_tree : (pages : ℕ) (old : Contents) (chains : List Chain) (roots : List ℕ) (root : ℕ) (at : RowKey) (db : Database) → CanSweep pages old chains roots (at ∷ []) db → slice_get roots (place_of at) ≡ Some root → (tree : Tree) × IsTree pages old (suc (place_of at)) root tree
+key_tree pages old chains roots root at db can here =
     let f = can.free.0 in
-    let same = tree_of pages old roots at root db f can.kept can.roots_are here in
-    (f.table.tree, subst (λ (r : ℕ). IsTree pages old (suc (place_of at)) r f.table.tree) same (can.kept.each (place_of at) f.table f.is_there).tree)
+    let same = tree_of roots at root db f can.roots_are here in
+    (f.table.tree, subst (λ (r : ℕ). IsTree pages old (suc (place_of at)) r f.table.tree) same (can.kept.holds.kept.each (place_of at) f.table f.is_there).tree)

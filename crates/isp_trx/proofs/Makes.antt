@@ -114,3 +114,55 @@ module _ {S : Type 0} (g : Ghosts S) (One Other : Contents → Type 0) (old mid 
       moments = λ t image told before had. behind_moment tells t image told before ((makes.time tells).moments t image told (let a = (first.time tells).onward in omega (arith, a, before)) had);
     };
   }
+
+-- ---- with a call behind it that adds nothing
+
+module _ {S : Type 0} (g : Ghosts S) (One : Contents → Type 0) (old mid new : S) (made : MakesWith {T = ⊤} FailsOnPages g One old mid (Ok tt)) where
+  then_left : g.tells → (image : Image) (told : List ℕ) → ((c : Contents) → g.may_leave mid c → Or (g.may_leave old) One c) → LeftAs (g.may_leave mid) (g.shape mid) (g.printed mid) image told → LeftAs (Or (g.may_leave old) One) (g.shape old) (g.printed old) image told
+  then_left tells image told within left = record {
+    left = record {
+      contents = left.left.contents;
+      stands = left.left.stands;
+      pages = left.left.pages ∙ ap (λ (shape : FileShape). shape.pages) made.keeps.same_shape;
+      fanout = left.left.fanout ∙ ap (λ (shape : FileShape). shape.fanout) made.keeps.same_shape;
+      may_be = within left.left.contents left.left.may_be;
+    };
+    silent = left.silent ∙ made.keeps.silent;
+  }
+
+  then_moment : g.tells → (t : ℕ) (image : Image) (told : List ℕ) → t ≤ g.clock old → g.left_since mid t image told ⊎ LeftAs (g.may_leave mid) (g.shape mid) (g.printed mid) image told
+      → g.left_since old t image told ⊎ LeftAs (Or (g.may_leave old) One) (g.shape old) (g.printed old) image told
+  then_moment tells t image told before (inl was) = (made.time tells).moments t image told before was
+  then_moment tells t image told before (inr left) = inr (then_left tells image told (made.stops tells) left)
+
+  pub makes_then : {T : Type 0} (result : Result T StoreFault) → ContinuesWith {T = T} FailsOnPages g mid new result → MakesWith {T = T} FailsOnPages g One old new result
+  makes_then (Ok x) steps = record {
+    keeps = record {
+      same_shape = steps.keeps.same_shape ∙ made.keeps.same_shape;
+      silent = steps.keeps.silent ∙ made.keeps.silent;
+      printer = steps.keeps.printer ∙ made.keeps.printer;
+      later = let steady = made.keeps.goes_on.steady in let later = steps.keeps.later in omega (arith, steady, later);
+      goes_on = record { steady = steps.keeps.goes_on.steady ∙ made.keeps.goes_on.steady; can = steps.keeps.goes_on.can };
+      cause = tt;
+    };
+    stops = λ tells c can. made.stops tells c (steps.stops tells c can);
+    time = λ tells. record {
+      onward = let a = (made.time tells).onward in let b = (steps.time tells).onward in omega (arith, a, b);
+      moments = λ t image told before had. then_moment tells t image told before ((steps.time tells).moments t image told (let a = (made.time tells).onward in omega (arith, a, before)) had);
+    };
+  }
+  makes_then (Err e) steps = record {
+    keeps = record {
+      same_shape = steps.keeps.same_shape ∙ made.keeps.same_shape;
+      silent = steps.keeps.silent ∙ made.keeps.silent;
+      printer = steps.keeps.printer ∙ made.keeps.printer;
+      later = let steady = made.keeps.goes_on.steady in let later = steps.keeps.later in omega (arith, steady, later);
+      goes_on = tt;
+      cause = subst (λ (n : ℕ). FailsOnPages n (g.disk_faults new) (g.usable new) e) made.keeps.goes_on.steady steps.keeps.cause;
+    };
+    stops = λ tells c can. made.stops tells c (steps.stops tells c can);
+    time = λ tells. record {
+      onward = let a = (made.time tells).onward in let b = (steps.time tells).onward in omega (arith, a, b);
+      moments = λ t image told before had. then_moment tells t image told before ((steps.time tells).moments t image told (let a = (made.time tells).onward in omega (arith, a, before)) had);
+    };
+  }

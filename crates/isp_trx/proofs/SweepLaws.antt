@@ -1,4 +1,4 @@
--- Marked rows that go from a kept file, one after another.
+-- Marked rows that go from a file with chains, one after another.
 use Rattle.std.proofs.Common.{◌≡◌, ℕ, suc, ◌==◌, ℤ, Bool, true, false, List, [], ◌∷◌, ◌++◌, map, Option, Some, None, refl, sym, ◌∙◌, ap, subst, arith, if◌then◌else◌}
 use Rattle.std.specs.Prelude.{Result, Ok, Err, OnOk, slice_get, slice_set}
 use Rattle.std.specs.List.{AllByRecursion, list_any}
@@ -11,20 +11,23 @@ use Rattle.isp_clustered.specs.Cells.{kept_of}
 use Rattle.isp_clustered.specs.Rows as tree_rows
 use Rattle.isp_clustered.specs.Rows.{without}
 use Rattle.isp_clustered.specs.Trees.{IsEdited, IsTree, Tree, has_marked, on_leaves}
-use Rattle.isp_clustered.proofs.TreeLaws.{drops_at}
-use Rattle.isp_image.specs.Courses.{IsDropped, drops, names, stood}
+use Rattle.isp_image.specs.Courses.{names, stood}
 use Rattle.isp_image.specs.Databases.{Database, FileRow, FileTable, row_key}
-use Rattle.isp_image.specs.Files.{IsFileRow, KeptFile}
+use Rattle.isp_image.specs.Files.{KeptFile}
 use Rattle.isp_image.specs.Keyed.{RisesBy, found, placed}
-use Rattle.isp_image.proofs.FileLaws.{def_of, images_dropped, kept_changed, rises_in, stored_of, with_table}
-use Rattle.isp_image.proofs.KeyedLaws.{each_placed, found_placed, key_is}
+use Rattle.isp_image.proofs.FileLaws.{def_of, rises_in, stored_of, with_table}
+use Rattle.isp_image.proofs.KeyedLaws.{found_placed, key_is}
 use Rattle.isp_image.proofs.ListLaws.{get_map, get_other, get_set, map_set_same}
-use Rattle.isp_image.proofs.StepLaws.{dropped_committed, dropped_now, reaches_more, reaches_on, reaches_self}
-use Rattle.isp_image.proofs.StoredLaws.{exchanged_rows}
-use Rattle.isp_image.proofs.TreeChanges.{edited_regrown}
+use Rattle.isp_image.proofs.StepLaws.{dropped_committed, dropped_now}
+use Rattle.isp_undo.specs.Chains.{Chain}
+use Rattle.isp_chained.specs.Chained.{ChainedFile}
+use Rattle.isp_chained.specs.Courses.{drops}
+use Rattle.isp_chained.proofs.CourseLaws.{reaches_more, reaches_on, reaches_self}
+use Rattle.isp_chained.proofs.HoldLaws.{table_now}
+use Rattle.isp_chained.proofs.WrittenLaws.{dropped_file}
 use Rattle.isp_trx.specs.Writes.{AreRoots, CanSweep, Drops, IsFree, IsUnmarked, Swept, SweptAll, Sweeps, SweepsAt, is_marked, kept_mark, place_of}
-use Rattle.isp_trx.specs.declared.noted.RowKey.{RowKey}
-use Rattle.isp_trx.proofs.WriteLaws.{found_in_tree}
+use Rattle.isp_trx.specs.declared.keys.RowKey.{RowKey}
+use Rattle.isp_trx.proofs.RowLaws.{found_in_tree}
 
 -- ---- one marked row goes
 
@@ -52,19 +55,20 @@ unmarked_stays d place t tree key is rises n k was = by (place == n) refl
         ap (λ (o : Option FileTable). is_marked (stood k o)) (ap (slice_get (slice_set d.tables place now)) (sym at) ∙ get_set d.tables place t now is) ∙ unmarked_here k key t.rows rises had
     by false no_same = ap (λ (o : Option FileTable). is_marked (stood k o)) (get_other d.tables place n now (apart place n no_same)) ∙ was
 
-swept_one : (pages : ℕ) (old new : Contents) (d : Database) (at : RowKey) (f : IsFree at d) (x : FileRow) → KeptFile pages old d → found row_key at.key f.table.rows ≡ Some x → x.stored.marked ≡ true
-    → IsEdited pages old new (suc (place_of at)) f.table.def.root.0 f.table.tree (without at.key) → SweptAll pages new (at ∷ []) d
-swept_one pages old new d at f x kept is marked edited =
+swept_one : (pages : ℕ) (old new : Contents) (chains : List Chain) (d : Database) (at : RowKey) (f : IsFree at d) (x : FileRow) → ChainedFile pages old d chains → found row_key at.key f.table.rows ≡ Some x → x.stored.marked ≡ true
+    → IsEdited pages old new (suc (place_of at)) f.table.def.root.0 f.table.tree (without at.key) → SweptAll pages new chains (at ∷ []) d
+swept_one pages old new chains d at f x file is marked edited =
+    let went = dropped_file pages old new d chains place t key x file f.is_there is marked f.unnamed edited in
     record {
       swept = record {
         after = after;
-        kept = kept_now;
+        kept = went.file;
         images = refl;
-        now = dropped_now pages old d after place key kept dropped;
-        same = dropped_committed pages old d after place key kept dropped;
+        now = dropped_now pages old d after place key kept went.dropped;
+        same = dropped_committed pages old d after place key kept went.dropped;
         defs = map_set_same def_of d.tables place t now f.is_there refl;
         unmarked = λ other was. unmarked_stays d place t (on_leaves (without key) t.tree) key f.is_there rises (place_of other) other.key was;
-        reaches = reaches_more pages d d after (reaches_self pages d) (drops place key dropped) (new, kept_now);
+        reaches = reaches_more pages d d after (reaches_self pages d) (drops place key went.dropped) (new, chains, went.file);
       };
       gone = (none_left, tt);
     }
@@ -78,30 +82,17 @@ swept_one pages old new d at f x kept is marked edited =
     key : ℤ
     key = at.key
 
+    kept : KeptFile pages old d
+    kept = file.holds.kept
+
     rises : RisesBy row_key t.rows
     rises = rises_in pages old d place t kept f.is_there
 
     now : FileTable
-    now = record { def = t.def; tree = on_leaves (without key) t.tree; rows = placed row_key key None t.rows }
+    now = table_now t (on_leaves (without key) t.tree) (placed row_key key None t.rows)
 
     after : Database
     after = with_table d place now d.space d.images
-
-    kept_now : KeptFile pages new after
-    kept_now = kept_changed pages old new d place t (on_leaves (without key) t.tree) (placed row_key key None t.rows) 0 d.space.bytes d.images kept f.is_there
-        (edited_regrown pages old new d place t (without key) (placed row_key key None t.rows) (drops_at key) kept f.is_there edited (exchanged_rows key None t.rows) (each_placed row_key (IsFileRow t.def.schema) key None t.rows tt (kept.each place t f.is_there).each))
-        (images_dropped d.tables place t (on_leaves (without key) t.tree) key d.images f.is_there rises f.unnamed kept.noted)
-
-    dropped : IsDropped place key d after
-    dropped = record {
-      row = x;
-      stood = ap (stood key) f.is_there ∙ is;
-      marked = marked;
-      free = f.unnamed;
-      exchanges = record { table = t; is_there = f.is_there; tree = on_leaves (without key) t.tree; tables = refl };
-      images = refl;
-      space = refl;
-    }
 
     none_left : IsUnmarked at after
     none_left = ap (λ (o : Option FileTable). is_marked (stood key o)) (get_set d.tables place t now f.is_there)
@@ -109,10 +100,10 @@ swept_one pages old new d at f x kept is marked edited =
 
 -- ---- nothing goes
 
-abbrev pub swept_none : (pages : ℕ) (old new : Contents) (d : Database) → KeptFile pages old d → new ≡ old → Swept pages new d
-swept_none pages old new d kept same = record {
+abbrev pub swept_none : (pages : ℕ) (old new : Contents) (chains : List Chain) (d : Database) → ChainedFile pages old d chains → new ≡ old → Swept pages new chains d
+swept_none pages old new chains d kept same = record {
   after = d;
-  kept = subst (λ (c : Contents). KeptFile pages c d) (sym same) kept;
+  kept = subst (λ (c : Contents). ChainedFile pages c d chains) (sym same) kept;
   images = refl;
   now = refl;
   same = refl;
@@ -137,34 +128,34 @@ mark_is (Some x) = refl
 tree_marks : (pages : ℕ) (old : Contents) (d : Database) (at : RowKey) (f : IsFree at d) → KeptFile pages old d → has_marked at.key f.table.tree ≡ is_marked (found row_key at.key f.table.rows)
 tree_marks pages old d at f kept = ap tree_mark (found_in_tree pages old d (place_of at) f.table at.key kept f.is_there) ∙ mark_is (found row_key at.key f.table.rows)
 
-pub tree_of : (pages : ℕ) (old : Contents) (roots : List ℕ) (at : RowKey) (root : ℕ) (d : Database) (f : IsFree at d) → KeptFile pages old d → AreRoots roots d → slice_get roots (place_of at) ≡ Some root → f.table.def.root.0 ≡ root
-tree_of pages old roots at root d f kept roots_are here = some_number _ _ (sym (roots_are (place_of at) f.table f.is_there) ∙ here)
+pub tree_of : (roots : List ℕ) (at : RowKey) (root : ℕ) (d : Database) (f : IsFree at d) → AreRoots roots d → slice_get roots (place_of at) ≡ Some root → f.table.def.root.0 ≡ root
+tree_of roots at root d f roots_are here = some_number _ _ (sym (roots_are (place_of at) f.table f.is_there) ∙ here)
   where
     some_number : (a b : ℕ) → Some a ≡ Some b → a ≡ b
     some_number a b same = cc
 
 pub drop_sweeps : (pages : ℕ) (old new : Contents) (roots : List ℕ) (at : RowKey) (root : ℕ) → slice_get roots (place_of at) ≡ Some root → ((table : ℕ) (tree : Tree) → IsTree pages old table root tree → has_marked at.key tree ≡ true) → Drops pages old root at new → Sweeps pages old roots (at ∷ []) (at ∷ []) new
-drop_sweeps pages old new roots at root here mark dropped = record { makes = λ d can. one d can }
+drop_sweeps pages old new roots at root here mark dropped = record { makes = λ chains d can. one chains d can }
   where
-    one : (d : Database) → CanSweep pages old roots (at ∷ []) d → SweptAll pages new (at ∷ []) d
-    one d can =
+    one : (chains : List Chain) (d : Database) → CanSweep pages old chains roots (at ∷ []) d → SweptAll pages new chains (at ∷ []) d
+    one chains d can =
         let f = can.free.0 in
-        let same = tree_of pages old roots at root d f can.kept can.roots_are here in
-        let tree = subst (λ (r : ℕ). IsTree pages old (suc (place_of at)) r f.table.tree) same (can.kept.each (place_of at) f.table f.is_there).tree in
-        let row = marked_row (found row_key at.key f.table.rows) (sym (tree_marks pages old d at f can.kept) ∙ mark (suc (place_of at)) f.table.tree tree) in
-        swept_one pages old new d at f row.0 can.kept row.1 row.2
+        let same = tree_of roots at root d f can.roots_are here in
+        let tree = subst (λ (r : ℕ). IsTree pages old (suc (place_of at)) r f.table.tree) same (can.kept.holds.kept.each (place_of at) f.table f.is_there).tree in
+        let row = marked_row (found row_key at.key f.table.rows) (sym (tree_marks pages old d at f can.kept.holds.kept) ∙ mark (suc (place_of at)) f.table.tree tree) in
+        swept_one pages old new chains d at f row.0 can.kept row.1 row.2
         (subst (λ (r : ℕ). IsEdited pages old new (suc (place_of at)) r f.table.tree (without at.key)) (sym same) (dropped.makes (suc (place_of at)) f.table.tree tree))
 
 pub none_sweeps : (pages : ℕ) (old new : Contents) (roots : List ℕ) (at : RowKey) (root : ℕ) → slice_get roots (place_of at) ≡ Some root → ((table : ℕ) (tree : Tree) → IsTree pages old table root tree → has_marked at.key tree ≡ false) → new ≡ old → Sweeps pages old roots (at ∷ []) (at ∷ []) new
-none_sweeps pages old new roots at root here mark unchanged = record { makes = λ d can. one d can }
+none_sweeps pages old new roots at root here mark unchanged = record { makes = λ chains d can. one chains d can }
   where
-    one : (d : Database) → CanSweep pages old roots (at ∷ []) d → SweptAll pages new (at ∷ []) d
-    one d can =
+    one : (chains : List Chain) (d : Database) → CanSweep pages old chains roots (at ∷ []) d → SweptAll pages new chains (at ∷ []) d
+    one chains d can =
         let f = can.free.0 in
-        let same = tree_of pages old roots at root d f can.kept can.roots_are here in
-        let tree = subst (λ (r : ℕ). IsTree pages old (suc (place_of at)) r f.table.tree) same (can.kept.each (place_of at) f.table f.is_there).tree in
-        let out : is_marked (found row_key at.key f.table.rows) ≡ false = sym (tree_marks pages old d at f can.kept) ∙ mark (suc (place_of at)) f.table.tree tree in
-        record { swept = swept_none pages old new d can.kept unchanged; gone = (ap (λ (o : Option FileTable). is_marked (stood at.key o)) f.is_there ∙ out, tt) }
+        let same = tree_of roots at root d f can.roots_are here in
+        let tree = subst (λ (r : ℕ). IsTree pages old (suc (place_of at)) r f.table.tree) same (can.kept.holds.kept.each (place_of at) f.table f.is_there).tree in
+        let out : is_marked (found row_key at.key f.table.rows) ≡ false = sym (tree_marks pages old d at f can.kept.holds.kept) ∙ mark (suc (place_of at)) f.table.tree tree in
+        record { swept = swept_none pages old new chains d can.kept unchanged; gone = (ap (λ (o : Option FileTable). is_marked (stood at.key o)) f.is_there ∙ out, tt) }
 
 -- ---- one after another
 
@@ -184,24 +175,24 @@ get_def xs ys n t same is = by (slice_get ys n) refl
     by None none = absurd (none_def t.def (sym (ap (option_map def_of) none) ∙ both))
     by (Some u) there = (u, there, same_def u.def t.def (sym (ap (option_map def_of) there) ∙ both))
 
-pub free_on : (pages : ℕ) (mid : Contents) (d : Database) (s : Swept pages mid d) (at : RowKey) → IsFree at d → IsFree at s.after
-free_on pages mid d s at f =
+pub free_on : (pages : ℕ) (mid : Contents) (chains : List Chain) (d : Database) (s : Swept pages mid chains d) (at : RowKey) → IsFree at d → IsFree at s.after
+free_on pages mid chains d s at f =
     let u = get_def d.tables s.after.tables (place_of at) f.table (sym s.defs) f.is_there in
     record { from = f.from; table = u.0; is_there = u.1; unnamed = ap (list_any (names (place_of at) at.key)) s.images ∙ f.unnamed }
 
-pub all_free : (pages : ℕ) (mid : Contents) (d : Database) (s : Swept pages mid d) (keys : List RowKey) → AllByRecursion (λ at. IsFree at d) keys → AllByRecursion (λ at. IsFree at s.after) keys
-all_free pages mid d s [] all = tt
-all_free pages mid d s (at ∷ keys) all = (free_on pages mid d s at all.0, all_free pages mid d s keys all.1)
+pub all_free : (pages : ℕ) (mid : Contents) (chains : List Chain) (d : Database) (s : Swept pages mid chains d) (keys : List RowKey) → AllByRecursion (λ at. IsFree at d) keys → AllByRecursion (λ at. IsFree at s.after) keys
+all_free pages mid chains d s [] all = tt
+all_free pages mid chains d s (at ∷ keys) all = (free_on pages mid chains d s at all.0, all_free pages mid chains d s keys all.1)
 
-abbrev pub can_sweep_on : (pages : ℕ) (old mid : Contents) (roots : List ℕ) (keys : List RowKey) (d : Database) → CanSweep pages old roots keys d → (s : Swept pages mid d) → CanSweep pages mid roots keys s.after
-can_sweep_on pages old mid roots keys d can s = record {
+abbrev pub can_sweep_on : (pages : ℕ) (old mid : Contents) (chains : List Chain) (roots : List ℕ) (keys : List RowKey) (d : Database) → CanSweep pages old chains roots keys d → (s : Swept pages mid chains d) → CanSweep pages mid chains roots keys s.after
+can_sweep_on pages old mid chains roots keys d can s = record {
   kept = s.kept;
   roots_are = λ place t is. let u = get_def s.after.tables d.tables place t s.defs is in can.roots_are place u.0 u.1 ∙ ap (λ (def : TableDef). Some def.root.0) u.2;
-  free = all_free pages mid d s keys can.free;
+  free = all_free pages mid chains d s keys can.free;
 }
 
-abbrev swept_on : (pages : ℕ) (mid new : Contents) (d : Database) (s : Swept pages mid d) → Swept pages new s.after → Swept pages new d
-swept_on pages mid new d s next = record {
+abbrev swept_on : (pages : ℕ) (mid new : Contents) (chains : List Chain) (d : Database) (s : Swept pages mid chains d) → Swept pages new chains s.after → Swept pages new chains d
+swept_on pages mid new chains d s next = record {
   after = next.after;
   kept = next.kept;
   images = next.images ∙ s.images;
@@ -219,15 +210,15 @@ all_stay d e (k ∷ keys) at stay all one = (stay k all.0, all_stay d e keys at 
 -- a key more
 pub sweeps_more : (pages : ℕ) (old mid new : Contents) (roots : List ℕ) (keys done : List RowKey) (at : RowKey) → ((d : Database) → AllByRecursion (λ k. IsFree k d) keys → IsFree at d) → Sweeps pages old roots keys done mid → Sweeps pages mid roots (at ∷ []) (at ∷ []) new → Sweeps pages old roots keys (done ++ at ∷ []) new
 sweeps_more pages old mid new roots keys done at among first next = record {
-  makes = λ d can.
-      let s = first.makes d can in
-      let can_now = can_sweep_on pages old mid roots keys d can s.swept in
-      let n = next.makes s.swept.after (record { kept = can_now.kept; roots_are = can_now.roots_are; free = (among s.swept.after can_now.free, tt) }) in
-      record { swept = swept_on pages mid new d s.swept n.swept; gone = all_stay s.swept.after n.swept.after done at n.swept.unmarked s.gone n.gone.0 };
+  makes = λ chains d can.
+      let s = first.makes chains d can in
+      let can_now = can_sweep_on pages old mid chains roots keys d can s.swept in
+      let n = next.makes chains s.swept.after (record { kept = can_now.kept; roots_are = can_now.roots_are; free = (among s.swept.after can_now.free, tt) }) in
+      record { swept = swept_on pages mid new chains d s.swept n.swept; gone = all_stay s.swept.after n.swept.after done at n.swept.unmarked s.gone n.gone.0 };
 }
 
 pub sweeps_begin : (pages : ℕ) (old : Contents) (roots : List ℕ) (keys : List RowKey) → Sweeps pages old roots keys [] old
-sweeps_begin pages old roots keys = record { makes = λ d can. record { swept = swept_none pages old old d can.kept refl; gone = tt } }
+sweeps_begin pages old roots keys = record { makes = λ chains d can. record { swept = swept_none pages old old chains d can.kept refl; gone = tt } }
 
 -- ---- the calls
 

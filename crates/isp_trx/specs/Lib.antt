@@ -1,4 +1,6 @@
+pub mod Backs
 pub mod Laws
+pub mod Noting
 pub mod Order
 pub mod Roots
 pub mod Trxs

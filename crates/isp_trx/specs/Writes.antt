@@ -1,5 +1,5 @@
 -- What the calls of a transaction make of the database that the contents are, and of the tables that are committed.
-use Rattle.std.specs.Prelude.{◌≡◌, ℕ, suc, pred, ◌≤◌, ℤ, Bool, true, false, nat_lt, List, [], ◌∷◌, ◌++◌, length, map, reverse, slice_get, slice_set, take, Option, Some, None, if◌then◌else◌}
+use Rattle.std.specs.Prelude.{◌≡◌, ℕ, zero, suc, pred, ◌≤◌, ℤ, Bool, true, false, nat_lt, List, [], ◌∷◌, ◌++◌, length, map, reverse, slice_get, slice_set, take, Option, Some, None, if◌then◌else◌}
 use Rattle.std.specs.List.{AllByRecursion, list_any}
 use Rattle.std.specs.Option.{option_map}
 use Rattle.isp_clustered.specs.Cells.{kept_of}
@@ -18,6 +18,7 @@ use Rattle.isp_chained.specs.Chained.{ChainedFile, old_of}
 use Rattle.isp_chained.specs.Courses.{Reaches, Step}
 use Rattle.isp_chained.specs.Laws.{Finishing, newer_of}
 use Rattle.isp_chained.specs.Steps.{AreDisjoint, IsFreeIn}
+pub use Rattle.isp_trx.specs.Noting.{Write, is_put, is_smaller, write_at}
 use Rattle.isp_trx.specs.Transactions.{old_image}
 use Rattle.isp_trx.specs.declared.keys.RowKey.{RowKey}
 
@@ -25,22 +26,6 @@ abbrev pub place_of : RowKey → ℕ
 place_of at = pred at.table
 
 -- ---- a row is written
-
--- a row that is written at a key, on the tree of that root; what stands there; and whether it is to be marked
-pub record Write : Type 0 where
-  pub at : RowKey
-  pub root : ℕ
-  pub old : Option Kept
-  pub row : List ℕ
-  pub marked : Bool
-
-abbrev pub write_at : RowKey → ℕ → Option Kept → List ℕ → Bool → Write
-write_at at root old row marked = record { at = at; root = root; old = old; row = row; marked = marked }
-
--- the key isn't there, or its slot is smaller
-abbrev pub is_smaller : ℕ → Option Kept → Bool
-is_smaller size None = true
-is_smaller size (Some kept) = nat_lt kept.slot size
 
 -- The contents are this database with these chains, of which the slot's is this one, and there is room; no other slot has an old row of
 -- the key; the row spells one of the table, and isn't to be marked where it is put.
@@ -54,7 +39,7 @@ pub record CanWrite (pages : ℕ) (contents : Contents) (chains : List Chain) (s
   pub stands : w.old ≡ option_map kept_of (find w.at.key (rows_of t.tree))
   pub spells : IsSpelling t.def.schema w.at.key w.row row
   pub room : has_room pages d.space ≡ true
-  pub unmarked : is_smaller (length w.row) w.old ≡ true → w.marked ≡ false
+  pub unmarked : is_put w ≡ true → w.marked ≡ false
 
 -- the change of plain tables that it is
 abbrev pub change_of : Write → Row → RowChange
@@ -119,7 +104,7 @@ pub record Undid (pages : ℕ) (contents : Contents) (chains : List Chain) (slot
   pub only : ChangesOnly (pred image.image.table) image.image.key d after
 
 abbrev pub UndidIf : ℕ → Contents → Contents → List Chain → ℕ → Chain → ℕ → Database → Type 0
-UndidIf pages old new chains slot chain 0 d = new ≡ old
+UndidIf pages old new chains slot chain zero d = new ≡ old
 UndidIf pages old new chains slot chain (suc count) d = Undid pages new chains slot chain d
 
 pub record Undoes (pages : ℕ) (old : Contents) (slot : ℕ) (count : ℕ) (roots : List ℕ) (new : Contents) : Type 0 where

@@ -1,6 +1,6 @@
 use Rattle.std.proofs.Common.{ℕ, ℤ, rules}
 use Rattle.std.proofs.lemmas.List.Sorted.{answers_always}
-use Rattle.isp_trx.specs.declared.noted.RowKey.{RowKey}
+use Rattle.isp_trx.specs.declared.keys.RowKey.{RowKey}
 use Rattle.isp_trx.proofs.order.rising.Goals as goal
 
 abbrev pair_of : RowKey → ℕ × ℤ

@@ -15,13 +15,13 @@ pub returns-in-Some-clause-swept : goal.returns-in-Some-clause-swept
 returns-in-Some-clause-swept g c tells = key_swept c.drop_if_marked.result _ _ _ (numbers_of c.args.roots.now) _ c.args.at c.in-Some.ensures.root (c.drop_if_marked.ensures.swept tells)
 
 pub returns-in-Some-clause-sound : goal.returns-in-Some-clause-sound
-returns-in-Some-clause-sound g c tells d can =
-    let tree = key_tree _ _ (numbers_of c.args.roots.now) _ c.args.at d can c.in-Some.ensures.root in
+returns-in-Some-clause-sound g c tells chains d can =
+    let tree = key_tree _ _ chains (numbers_of c.args.roots.now) _ c.args.at d can c.in-Some.ensures.root in
     c.drop_if_marked.ensures.sound tells _ tree.0 tree.1
 
 pub returns-in-None-clause-sound : goal.returns-in-None-clause-sound
-returns-in-None-clause-sound g c tells d can =
-    let there = key_there _ _ (numbers_of c.args.roots.now) c.args.at d can in
+returns-in-None-clause-sound g c tells chains d can =
+    let there = key_there _ _ chains (numbers_of c.args.roots.now) c.args.at d can in
     let some = c.root_of.ensures.none there.0 there.1 there.2 in
     let none : is_none c.root_of.result ≡ true = ap (λ (o : Option PageNo). is_none o) c.in-None.is in
     let bad : true ≡ false = sym none ∙ some in

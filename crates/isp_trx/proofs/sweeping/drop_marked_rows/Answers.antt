@@ -18,15 +18,15 @@ returns-in-Err-clause-made g c =
     (λ tells contents swept. next_some pages _ old _ roots keys c.loop-at.at-index _ _ shape (omega (arith, less)) refl (c.loop-at.invariant.2 tells) contents swept) c.loop-at.invariant.0 c.in-Err.fault c.in-Err.ensures.made
 
 pub returns-in-Err-clause-sound : goal.returns-in-Err-clause-sound
-returns-in-Err-clause-sound g c tells d can =
+returns-in-Err-clause-sound g c tells chains d can =
     let pages = (g.P.Pages.shape c.args.pages.now).pages in
     let old = g.P.Pages.contents c.args.pages.now in
     let roots = numbers_of c.args.roots.now in
     let keys = c.args.keys.now in
     let shape = ap (λ (s : FileShape). s.pages) c.loop-at.invariant.0.keeps.same_shape in
     let less = c.loop-at-test.true in
-    let next = next_can pages _ old _ roots keys c.loop-at.at-index _ _ shape (omega (arith, less)) refl (c.loop-at.invariant.2 tells) d can in
-    c.in-Err.ensures.sound tells next.0 next.1
+    let next = next_can pages _ old _ roots keys c.loop-at.at-index _ _ shape (omega (arith, less)) refl (c.loop-at.invariant.2 tells) chains d can in
+    c.in-Err.ensures.sound tells chains next.0 next.1
 
 pub loop-at-preserved : goal.loop-at-preserved
 loop-at-preserved g c =

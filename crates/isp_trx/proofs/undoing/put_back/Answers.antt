@@ -1,29 +1,31 @@
-use Rattle.std.proofs.Common.{rules, FitsSigned, Some, None, ap, w64}
+use Rattle.std.proofs.Common.{FitsSigned, sym, ◌∙◌, ap, subst, w64}
+use Rattle.std.specs.Prelude.{ℤ}
 use Rattle.std.proofs.lemmas.Int.{to_z-of_z}
 use Rattle.isp_page.specs.State.{FileShape}
-use Rattle.isp_trx.proofs.UndoLaws.{mark_on, mark_sound, noted_can, noted_undoes, rewrite_on, rewrite_sound_at}
+use Rattle.isp_undo_pages.specs.Entries.{image_in}
+use Rattle.isp_trx.proofs.UndoLaws.{none_fits, put_none_on, put_row_on, row_fits}
 use Rattle.isp_trx.proofs.undoing.put_back.Goals as goal
 
-pub returns-in-Some-clause-undone : goal.returns-in-Some-clause-undone
-returns-in-Some-clause-undone g c tells images roots here =
-    let fits : FitsSigned w64 c.args.noted.now.at.key = search rules in
-    noted_undoes c.rewrite.result _ _ _ c.args.noted.now.at c.args.noted.now.old (Some c.in-Some.kept) images roots c.in-Some.is
-    (rewrite_on c.rewrite.result _ _ _ _ c.args.noted.now.at c.in-Some.kept _ _ _ (to_z-of_z w64 c.args.noted.now.at.key fits) c.as_slice.ensures (ap (λ (shape : FileShape). shape.pages) c.rewrite.ensures.changes.kept.keeps.same_shape) (c.rewrite.ensures.written tells) images roots here)
+pub returns-then-old-eq-ABSENT_KIND-clause-put : goal.returns-then-old-eq-ABSENT_KIND-clause-put
+returns-then-old-eq-ABSENT_KIND-clause-put g c tells =
+    let k = c.key_in-key.ensures in
+    let key = to_z-of_z w64 c.key_in-key.result (subst (λ (n : ℤ). FitsSigned w64 n) (sym k.key) k.fits) ∙ k.key in
+    put_none_on c.mark.result _ _ _ _ (image_in c.args.old.now) _ _ key (ap (λ (shape : FileShape). shape.pages) c.mark.ensures.changes.kept.keeps.same_shape) c.if-old-eq-ABSENT_KIND.true (c.mark.ensures.marked tells)
 
-pub returns-in-Some-clause-sound : goal.returns-in-Some-clause-sound
-returns-in-Some-clause-sound g c tells images roots d here can =
-    let fits : FitsSigned w64 c.args.noted.now.at.key = search rules in
-    rewrite_sound_at _ _ c.args.noted.now.at c.in-Some.kept _ _ _ _ (to_z-of_z w64 c.args.noted.now.at.key fits) c.as_slice.ensures images roots d here
-    (noted_can _ _ c.args.noted.now.at c.args.noted.now.old (Some c.in-Some.kept) images roots d c.in-Some.is can) (c.rewrite.ensures.sound tells)
+pub returns-then-old-eq-ABSENT_KIND-clause-sound : goal.returns-then-old-eq-ABSENT_KIND-clause-sound
+returns-then-old-eq-ABSENT_KIND-clause-sound g c tells table tree is fits =
+    let k = c.key_in-key.ensures in
+    let key = to_z-of_z w64 c.key_in-key.result (subst (λ (n : ℤ). FitsSigned w64 n) (sym k.key) k.fits) ∙ k.key in
+    c.mark.ensures.sound tells table tree is (none_fits (image_in c.args.old.now) tree _ key c.if-old-eq-ABSENT_KIND.true fits)
 
-pub returns-in-None-clause-undone : goal.returns-in-None-clause-undone
-returns-in-None-clause-undone g c tells images roots here =
-    let fits : FitsSigned w64 c.args.noted.now.at.key = search rules in
-    noted_undoes c.mark.result _ _ _ c.args.noted.now.at c.args.noted.now.old None images roots c.in-None.is
-    (mark_on c.mark.result _ _ _ _ c.args.noted.now.at _ _ (to_z-of_z w64 c.args.noted.now.at.key fits) (ap (λ (shape : FileShape). shape.pages) c.mark.ensures.changes.kept.keeps.same_shape) (c.mark.ensures.marked tells) images roots here)
+pub returns-else-old-eq-ABSENT_KIND-clause-put : goal.returns-else-old-eq-ABSENT_KIND-clause-put
+returns-else-old-eq-ABSENT_KIND-clause-put g c tells =
+    let k = c.key_in-key.ensures in
+    let key = to_z-of_z w64 c.key_in-key.result (subst (λ (n : ℤ). FitsSigned w64 n) (sym k.key) k.fits) ∙ k.key in
+    put_row_on c.rewrite.result _ _ _ _ (image_in c.args.old.now) _ _ _ key c.row_in.ensures (ap (λ (shape : FileShape). shape.pages) c.rewrite.ensures.changes.kept.keeps.same_shape) c.if-old-eq-ABSENT_KIND.false (c.rewrite.ensures.written tells)
 
-pub returns-in-None-clause-sound : goal.returns-in-None-clause-sound
-returns-in-None-clause-sound g c tells images roots d here can =
-    let fits : FitsSigned w64 c.args.noted.now.at.key = search rules in
-    mark_sound _ _ c.args.noted.now.at _ _ _ (to_z-of_z w64 c.args.noted.now.at.key fits) images roots d here
-    (noted_can _ _ c.args.noted.now.at c.args.noted.now.old None images roots d c.in-None.is can) (c.mark.ensures.sound tells)
+pub returns-else-old-eq-ABSENT_KIND-clause-sound : goal.returns-else-old-eq-ABSENT_KIND-clause-sound
+returns-else-old-eq-ABSENT_KIND-clause-sound g c tells table tree is fits =
+    let k = c.key_in-key.ensures in
+    let key = to_z-of_z w64 c.key_in-key.result (subst (λ (n : ℤ). FitsSigned w64 n) (sym k.key) k.fits) ∙ k.key in
+    c.rewrite.ensures.sound tells table tree is (row_fits (image_in c.args.old.now) tree _ _ key c.row_in.ensures c.if-old-eq-ABSENT_KIND.false fits)
