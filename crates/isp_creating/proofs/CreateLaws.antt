@@ -267,6 +267,7 @@ module _ (pages : ℕ) (old mid new : Contents) (chains : List Chain) (d : Datab
     trees = each_behind (λ n (u : FileTable). Owns owner (of_table (suc n)) (pages_of u.tree)) d.tables table (λ m u got. theirs m u got) mine;
     known = known;
   }
+
   -- ---- chains
 
   directory_out : (is_page 0 1 || (is_page def.root.0 1 || is_page (definition_page def.number) 1)) ≡ false

@@ -1,5 +1,5 @@
 -- What a change that is taken back leaves of an open file.
-use Rattle.std.proofs.Common.{◌≡◌, ℕ, zero, suc, ◌-◌, ◌<◌, true, false, List, [], ◌∷◌, length, map, reverse, refl, sym, ◌∙◌, ap, subst, arith}
+use Rattle.std.proofs.Common.{◌≡◌, ℕ, zero, suc, ◌<◌, true, false, List, length, map, reverse, sym, ◌∙◌, ap, subst, arith}
 use Rattle.std.specs.Prelude.{nat_lt}
 use Rattle.std.proofs.lemmas.Bool.Decides.{nat_tests}
 use Rattle.std.proofs.lemmas.List.{length-map, length-reverse}
@@ -52,7 +52,7 @@ module _ {S : Type 0} (g : Ghosts S) (old new : S) (defs : List TableDef) (trx t
       let after = popped opened.chain in
       let chains_are = one.next after ∙ sym (ap (λ (s : ℕ). alone s after) undone.session) in
       let kept_now : ChainedFile n (g.contents new) u.after (alone trx_now.session after) = subst (λ (k : ℕ). ChainedFile k (g.contents new) u.after (alone trx_now.session after)) (sym pages)
-          (subst (λ (chains : List Chain). ChainedFile (g.shape old).pages (g.contents new) u.after chains) chains_are u.kept) in
+      (subst (λ (chains : List Chain). ChainedFile (g.shape old).pages (g.contents new) u.after chains) chains_are u.kept) in
       let images = undone_images (g.shape old).pages (g.contents new) trx.session opened.chain d u in
       let less = undone.count in
       let was = opened.noted in

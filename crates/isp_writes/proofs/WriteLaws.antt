@@ -1,6 +1,6 @@
 -- What a row that is written leaves of an open file.
-use Rattle.std.proofs.Common.{◌≡◌, ℕ, suc, pred, ℤ, ◌+◌, ◌<◌, ◌≤◌, Bool, true, false, List, ◌∷◌, length, slice_get, Option, Some, None, refl, sym, ◌∙◌, ap, subst, arith, if◌then◌else◌}
-use Rattle.std.specs.Prelude.{IfOk, IfSome, Result, Ok, Err, nat_le, nat_lt}
+use Rattle.std.proofs.Common.{◌≡◌, ℕ, suc, pred, ℤ, ◌+◌, ◌<◌, ◌≤◌, Bool, true, false, List, length, slice_get, Option, Some, None, refl, sym, ◌∙◌, ap, subst, arith, if◌then◌else◌}
+use Rattle.std.specs.Prelude.{IfOk, IfSome, Result, Ok, Err, nat_lt}
 use Rattle.std.specs.Option.{option_map}
 use Rattle.std.proofs.lemmas.Bool.Decides.{nat_tests}
 use Rattle.isp_catalog.specs.declared.table.TableDef.{TableDef}
@@ -23,7 +23,7 @@ use Rattle.isp_plain.specs.Values.{key_of}
 use Rattle.isp_plain.specs.declared.value.Row.{Row}
 use Rattle.isp_space.specs.Spaces.{has_room}
 use Rattle.isp_trx.specs.Transactions.{HasNoted, SameTrx, TrxState, old_image}
-use Rattle.isp_trx.specs.Writes.{CanWrite, Write, Wrote, chain_with, change_of, is_smaller, place_of, write_at}
+use Rattle.isp_trx.specs.Writes.{CanWrite, Write, Wrote, chain_with, change_of, is_smaller, write_at}
 use Rattle.isp_trx.specs.declared.keys.RowKey.{RowKey}
 use Rattle.isp_trx_laws.specs.Written.{AreWritten}
 use Rattle.isp_trx_laws.proofs.MarkLaws.{write_adds_key}
@@ -190,7 +190,7 @@ module _ {S : Type 0} (g : Ghosts S) (old new : S) (defs : List TableDef) (trx t
       let after = chain_with w d opened.chain in
       let chains_are = (one_chain g old defs trx d opened).next after ∙ sym (ap (λ (s : ℕ). alone s after) noted.session) in
       let kept_now : ChainedFile n (g.contents new) wrote.after (alone trx_now.session after) = subst (λ (k : ℕ). ChainedFile k (g.contents new) wrote.after (alone trx_now.session after)) (sym pages)
-          (subst (λ (l : List Chain). ChainedFile (g.shape old).pages (g.contents new) wrote.after l) chains_are wrote.kept) in
+      (subst (λ (l : List Chain). ChainedFile (g.shape old).pages (g.contents new) wrote.after l) chains_are wrote.kept) in
       let images = written_images (g.shape old).pages (g.contents new) trx.session opened.chain w row d wrote in
       let more = noted.count in
       let was = opened.noted in

@@ -1,4 +1,4 @@
-use Rattle.std.proofs.Common.{rules, ◌≡◌, ap, subst, sym, ℕ}
+use Rattle.std.proofs.Common.{rules, ◌≡◌, subst, ℕ}
 use Rattle.isp_clustered.specs.Calls.{Creates as Plants}
 use Rattle.isp_creating.proofs.creating.plant.Goals as goal
 

@@ -1,5 +1,4 @@
 use Rattle.std.proofs.Common.{rules, ◌≡◌, ℕ, true, false, refl, sym, ◌∙◌, ap, subst}
-use Rattle.isp_image.specs.Databases.{Database}
 use Rattle.isp_page.specs.State.{FileShape}
 use Rattle.isp_trx.specs.Writes.{Wrote, write_at}
 use Rattle.isp_trx.proofs.WriteLaws.{can_moved}
