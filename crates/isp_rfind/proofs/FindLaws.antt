@@ -145,7 +145,7 @@ visits_on tree zero x y z run last = (z, subst (λ (w : Search). IsVisit tree w 
 visits_on tree (suc n) x y z run last = (run.0, run.1, visits_on tree n run.0 y z run.2 last)
 
 -- the next visit
-abbrev visited : Tree → Corners → (number n q : ℕ) → (stack : List Pending) → Looking tree b number n q stack → Search
+abbrev visited : (tree : Tree) (b : Corners) (number n q : ℕ) (stack : List Pending) → Looking tree b number n q stack → Search
 visited tree b number n q stack l = looked_at (counter tree) l.page q (record l.x { stack = remembers (counter tree) stack ++ [] })
 
 -- the same as the forest's definitions have it
@@ -172,7 +172,7 @@ pub record Looked (tree : Tree) (b : Corners) (number visited : ℕ) (stack : Li
   pub none : NoneOn tree x.on b number
 
 pub looks : (tree : Tree) (forest : Forest tree) (b : Corners) (number n q : ℕ) (stack now : List Pending) (l : Looking tree b number n q stack) → (HasEntry l.page b number → ⊥) → now ≡ stack ++ filter_map (pending_of l.page.level b) l.page.entries → Looked tree b number (suc n) now
-looks tree forest b number n q stack now l no pushed = record {
+looks tree forest b number n q stack now l lacks pushed = record {
   x = y;
   run = visits_on tree n (begun tree 0 0 (equals b)) l.x y l.run (record { rest = rest; p = q; s = counter tree; stack = l.stack_is; is = visited_is tree forest b number n q stack l });
   asks = l.asks;
@@ -181,7 +181,7 @@ looks tree forest b number n q stack now l no pushed = record {
   next = subst (λ (s : List Pending). AreNext tree s) (sym pushed) (next_both tree stack kids l.next (next_children tree forest b q l.page l.there));
   none = λ p page on there has. elim (Has-append l.x.on (q ∷ []) p on) [
     | inl before ↦ l.none p page before there has
-    | inr new ↦ no (subst (λ (z : Node). HasEntry z b number) (at_q p page new there) has)
+    | inr new ↦ lacks (subst (λ (z : Node). HasEntry z b number) (at_q p page new there) has)
   ];
 }
   where
@@ -280,11 +280,11 @@ found_here contents shape owner tree is b number n at stack bytes read l has =
     record { page = l.page; there = l.there; entry = has.0; has = subst (λ (x : Node). Has x.entries has.0) means has.1; is = has.2 }
 
 pub looked_here : (contents : Contents) (shape : FileShape) (owner : ℕ) (tree : Tree) → IsTreeIn contents shape owner tree → (b : Corners) (number n q : ℕ) (stack : List Pending) (bytes : List ℕ) → bytes ≡ page_of contents q → Looking tree b number n q stack → (HasEntry (node_of bytes) b number → ⊥) → Looked tree b number (suc n) (stack ++ children_of b bytes)
-looked_here contents shape owner tree is b number n q stack bytes read l no =
+looked_here contents shape owner tree is b number n q stack bytes read l lacks =
     let means : node_of bytes ≡ l.page = reads_tree contents shape owner tree is q l.page l.there bytes read in
     let same : children_of b bytes ≡ filter_map (pending_of l.page.level b) l.page.entries =
         ap (λ (level : ℕ). filter_map (pending_of level b) (node_of bytes).entries) (sym (level_is bytes)) ∙ ap (λ (x : Node). filter_map (pending_of x.level b) x.entries) means in
-    looks tree is.forest b number n q stack (stack ++ children_of b bytes) l (λ has. no (subst (λ (x : Node). HasEntry x b number) (sym means) has)) (ap (λ (xs : List Pending). stack ++ xs) same)
+    looks tree is.forest b number n q stack (stack ++ children_of b bytes) l (λ has. lacks (subst (λ (x : Node). HasEntry x b number) (sym means) has)) (ap (λ (xs : List Pending). stack ++ xs) same)
 
 pub takes_none : (tree : Tree) → Forest tree → (b : Corners) (number n : ℕ) (all left : List Pending) → Takes all None left → Looked tree b number n all → Finds tree b number None
 takes_none tree forest b number n all left takes l = none_left tree forest b number n (subst (λ (xs : List Pending). Looked tree b number n xs) takes l)

@@ -1,2 +1,3 @@
 mod FindLaws
 mod StackLaws
+mod TurnLaws

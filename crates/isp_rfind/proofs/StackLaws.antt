@@ -1,6 +1,6 @@
 -- What the pages that are still to be read are, one step after the other, and which page a call names.
 use Rattle.std.proofs.Common.{◌≡◌, ◌⊎◌, inl, inr, ℕ, zero, suc, ◌+◌, ◌<◌, Option, Some, None, List, [], ◌∷◌, ◌++◌, ◌≤◌, length, drop, get_or, refl, sym, ◌∙◌, ap, subst, arith}
-use Rattle.std.specs.Prelude.{Result, Ok, slice_get, ⊤}
+use Rattle.std.specs.Prelude.{slice_get}
 use Rattle.std.specs.List.{cons_option, filter_map}
 use Rattle.std.proofs.lemmas.List.{append-nil, append_assoc, drop_all, drop_more}
 use Rattle.std.proofs.lemmas.Option.{get_or_from_slice_get, slice_get_within}
@@ -22,13 +22,9 @@ use Rattle.isp_rtree.specs.Calls.{NamesPage, NamesTreeOrLacks}
 use Rattle.isp_rtree.specs.Trees.{IsInside, IsPageOf, IsRead, IsTreeIn, LeadsInside}
 use Rattle.isp_rtree.proofs.TreeLaws.{level_in, page_of_tree}
 use Rattle.isp_rfind.specs.Stack.{AreInside, AreNext, children_of, pending_of}
-use Rattle.isp_rfind.specs.Walks.{NamesWalk, NamesWalkOrLacks}
+use Rattle.isp_rfind.specs.Walks.{NamesWalkOrLacks}
 use Rattle.isp_rfind.specs.declared.pending.Pending.{Pending}
 use Rattle.isp_rfind.proofs.FindLaws.{FromEntry, from_entry}
-
--- how a loop's turns so far ended
-abbrev pub so_far : Result ⊤ Fault
-so_far = Ok tt
 
 -- ---- the children of a page are added
 
@@ -50,7 +46,7 @@ add_more b level es i e before now whole there added sum =
 
 -- with none left, all are added
 pub all_added : (b : Corners) (level : ℕ) (es : List Entry) (i : ℕ) (now whole : List Pending) → length es ≤ i → now ++ filter_map (pending_of level b) (drop i es) ≡ whole → now ≡ whole
-all_added b level es i now whole end sum = sym (append-nil now) ∙ ap (λ (xs : List Entry). now ++ filter_map (pending_of level b) xs) (sym (drop_all es i end)) ∙ sum
+all_added b level es i now whole end sum = sym (append-nil now) ∙ ap (λ (xs : List Entry). now ++ filter_map (pending_of level b) xs) (sym (drop_all i es end)) ∙ sum
 
 -- ---- all are pages of the file
 
@@ -75,14 +71,6 @@ last_inside pages all left s is inside = inside s (last_has all left s is)
 pub left_inside : (pages : ℕ) (all left : List Pending) (s : Pending) → all ≡ left ++ s ∷ [] → AreInside pages all → AreInside pages left
 left_inside pages all left s is inside x h = inside x (subst (λ (xs : List Pending). Has xs x) (sym is) (Has-append_left left (s ∷ []) x h))
 
-pub none_has : (pages : ℕ) (xs : List Pending) → length xs ≡ 0 → AreInside pages xs
-none_has pages [] none s h = absurd h
-none_has pages (x ∷ xs) none s h = absurd (omega (arith, none))
-
-pub is_empty : (xs : List Pending) → length xs ≡ 0 → xs ≡ []
-is_empty [] none = refl
-is_empty (x ∷ xs) none = absurd (omega (arith, none))
-
 -- ---- the page that is read next
 
 pub record IsBelow (contents : Contents) (shape : FileShape) (owner : ℕ) (s : Pending) : Type 0 where
@@ -104,11 +92,6 @@ walks pages (Store Disk) names = tt
 walks pages (Store Print) names = tt
 walks pages (Store (Damaged page rule)) names = (names.0, inl names.1)
 walks pages Memory names = tt
-
-pub root_walks : (pages root : ℕ) (fault : StoreFault) → root < pages → NamesPage root fault → NamesWalk pages fault
-root_walks pages root Disk inside names = tt
-root_walks pages root Print inside names = tt
-root_walks pages root (Damaged page rule) inside names = (subst (λ (p : ℕ). p < pages) (sym names.0) inside, inl names.1)
 
 pub page_walks : (pages q : ℕ) (fault : StoreFault) → q < pages → NamesPage q fault → NamesTreeOrLacks pages (Store fault)
 page_walks pages q Disk inside names = tt

@@ -6,7 +6,7 @@ use Rattle.isp_forest.specs.Tree.{Tree}
 use Rattle.isp_rtree.specs.Trees.{IsAtPage, IsPageOf}
 use Rattle.isp_rfind.specs.Stack.{AreInside}
 use Rattle.isp_rfind.proofs.FindLaws.{Looking}
-use Rattle.isp_rfind.proofs.StackLaws.{so_far}
+use Rattle.isp_rfind.proofs.TurnLaws.{so_far}
 use Rattle.isp_rfind.proofs.finding.search.Given as goal
 
 abbrev pub invariant-loop-turn : goal.invariant-loop-turn
