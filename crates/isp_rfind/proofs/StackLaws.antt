@@ -62,7 +62,7 @@ added_inside pages owner b bytes stack now is inside added s h =
       | inr child ↦ children_inside pages b (header_of bytes).level (node_of bytes).entries is.children s child
     ]
 
-last_has : (all left : List Pending) (s : Pending) → all ≡ left ++ s ∷ [] → Has all s
+pub last_has : (all left : List Pending) (s : Pending) → all ≡ left ++ s ∷ [] → Has all s
 last_has all left s is = subst (λ (xs : List Pending). Has xs s) (sym is) (Has-append_right left (s ∷ []) s (inl refl))
 
 pub last_inside : (pages : ℕ) (all left : List Pending) (s : Pending) → all ≡ left ++ s ∷ [] → AreInside pages all → s.page.0 < pages

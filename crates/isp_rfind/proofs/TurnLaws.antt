@@ -19,6 +19,10 @@ module _ {S : Type 0} (g : Ghosts S) where
   call_after old mid new (Err (Store Print)) first second = search rules
   call_after old mid new (Err (Store (Damaged page rule))) first second = search rules
 
-  -- it ends where the loop does
+  -- one turn more
+  pub one_more : {T : Type 0} (old mid new : S) (x : T) → ContinuesOrLacks {T = ⊤} g old mid so_far → ContinuesOrLacks {T = T} g mid new (Ok x) → ContinuesOrLacks {T = ⊤} g old new so_far
+  one_more old mid new x first second = search rules
+
+  -- the call with which the loop ends
   pub call_ends : {T : Type 0} (old mid new : S) (told result : Result T Fault) → result ≡ told → ContinuesOrLacks {T = ⊤} g old mid so_far → ContinuesOrLacks {T = T} g mid new told → ContinuesOrLacks {T = T} g old new result
   call_ends {T = T} old mid new told result is first second = subst (λ (r : Result T Fault). ContinuesOrLacks {T = T} g old new r) (sym is) (call_after old mid new told first second)

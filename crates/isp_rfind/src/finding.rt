@@ -8,7 +8,7 @@ ghost use Rattle.isp_page.specs.declared.fault.StoreFault.TheVariants.{Damaged};
 ghost use Rattle.isp_forest.specs.Tree.{Tree};
 ghost use Rattle.isp_rnode.specs.Nodes.{IsReadable, node_of};
 ghost use Rattle.isp_rtree.specs.Calls.{HasPage, HasRoot, HasTree, NamesTreeOrLacks, ReadsPagesOrLacks};
-ghost use Rattle.isp_rfind.specs.Walks.{NamesWalkOrLacks};
+ghost use Rattle.isp_rfind.specs.Walks.{AreChildren, IsOnWay, NamesWalkOrLacks, ShowsChildOrLacks, ShowsOrLacks};
 ghost use Rattle.isp_rfind.specs.Finding.{Finds, HasEntry, IsSought};
 ghost use Rattle.isp_rfind.specs.Stack.{AreInside, AreNext, Takes, children_of, pending_in, pending_of};
 ghost use Rattle.isp_rtree.specs.Trees.{IsAtPage, IsPageOf, IsRead, IsTreeIn};
@@ -49,6 +49,8 @@ pub fn find<P: Pages>(
             × HasEntry (node_of (page_of (P.contents pages.old) p.0)) b.now number)) }
     ensures sound { P.tells → (owner : ℕ) (tree : Tree) → HasTree P.Pages pages.old owner root.0 tree
         → IfErr result IsNoDamageOrLacks }
+    ensures shows { P.tells → IfErr result
+        (ShowsOrLacks (P.contents pages.old) (P.shape pages.old).pages root.0) }
 {
     let mut page = Page::zeros();
     let owner = read_root(pages, root, &mut page)?;
@@ -80,6 +82,8 @@ fn search<P: Pages>(
     ensures sound { P.tells → (tree : Tree)
         → IsAtPage (P.contents pages.old) (P.shape pages.old) owner tree root.0 page.old.bytes
         → tree.root ≡ root.0 → IfErr result IsNoDamageOrLacks }
+    ensures shows { P.tells → page.old.bytes ≡ page_of (P.contents pages.old) root.0 → IfErr result
+        (ShowsChildOrLacks (P.contents pages.old) (P.shape pages.old).pages owner) }
 {
     let count = pages.pages();
     let mut stack = Vec::new(alloc);
@@ -122,6 +126,10 @@ fn go_on<P: Pages>(
         → IsTreeIn (P.contents pages.old) (P.shape pages.old) owner tree
         → AreNext tree (stack.old.items ++ children_of b.now page.old.bytes)
         → IfErr result IsNoDamageOrLacks }
+    ensures on { P.tells → IsOnWay (P.contents pages.old) (P.shape pages.old).pages owner page.old.bytes stack.old.items
+        → OnOk result (AreChildren (P.contents pages.old) (P.shape pages.old).pages owner stack.new.items) }
+    ensures shows { P.tells → IsOnWay (P.contents pages.old) (P.shape pages.old).pages owner page.old.bytes stack.old.items
+        → IfErr result (ShowsChildOrLacks (P.contents pages.old) (P.shape pages.old).pages owner) }
 {
     add_children(stack, page, b)?;
     match stack.pop() {

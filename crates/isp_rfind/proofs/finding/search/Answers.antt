@@ -9,10 +9,12 @@ use Rattle.isp_rtree.specs.Calls.{NamesTreeOrLacks}
 use Rattle.isp_rtree.specs.Trees.{IsPageOf, IsTreeIn}
 use Rattle.isp_rtree.proofs.TreeLaws.{fewer_pages}
 use Rattle.isp_rfind.specs.Stack.{AreInside, Takes, children_of}
+use Rattle.isp_rfind.specs.Walks.{AreChildren, ShowsChildOrLacks}
 use Rattle.isp_rfind.specs.declared.pending.Pending.{Pending}
 use Rattle.isp_rfind.proofs.FindLaws.{Looked, Looking, begins, found_here, looked_here, not_over, takes_next, takes_none}
+use Rattle.isp_rfind.proofs.ShowLaws.{children_then, on_way, shows_then}
 use Rattle.isp_rfind.proofs.StackLaws.{walks}
-use Rattle.isp_rfind.proofs.TurnLaws.{call_ends}
+use Rattle.isp_rfind.proofs.TurnLaws.{call_ends, one_more}
 use Rattle.isp_rfind.proofs.finding.search.Goals as goal
 
 false_true : IsTrue false → ⊥
@@ -27,6 +29,7 @@ loop-turn-init g c = record {
   is = c.requires.is;
   stack = subst (λ (xs : List Pending). AreInside (g.P.Pages.shape c.args.pages.now).pages xs) (sym c.new-stack.ensures.items) (λ s h. absurd h);
   read = λ tells read. read;
+  on = λ tells read. subst (λ (xs : List Pending). AreChildren (g.P.Pages.contents c.args.pages.now) (g.P.Pages.shape c.args.pages.now).pages c.args.owner xs) (sym c.new-stack.ensures.items) (λ s h. absurd h);
   looking = λ tells tree at root. subst (λ (xs : List Pending). Looking tree c.args.b.now c.args.number 0 c.args.root.0 xs) (sym c.new-stack.ensures.items) (begins tree at.is.forest c.args.b.now c.args.number c.args.root.0 root);
 }
 
@@ -59,6 +62,18 @@ returns-in_err-next-clause-sound g c tells tree at root =
     let sound = c.in_err-next.ensures.sound tells tree here looked.next in
     search (rules, sound, c.from_residual.ensures)
 
+pub returns-in_err-next-clause-shows : goal.returns-in_err-next-clause-shows
+returns-in_err-next-clause-shows g c tells read =
+    let inv = c.loop-turn.invariant in
+    let old = g.P.Pages.contents c.args.pages.now in
+    let mid = g.P.Pages.contents c.loop-turn.pages in
+    let shape = g.P.Pages.shape c.args.pages.now in
+    let same = inv.kept.keeps.same_shape in
+    let fault = c.in_err-next.field-0.0 in
+    let way = on_way old mid shape (g.P.Pages.shape c.loop-turn.pages) c.args.owner c.loop-turn.at.0 c.loop-turn.page.bytes c.loop-turn.stack.items (inv.contents tells) same inv.is (inv.read tells read) (inv.on tells read) in
+    let shows : ShowsChildOrLacks old shape.pages c.args.owner fault = shows_then old mid shape (g.P.Pages.shape c.loop-turn.pages) c.args.owner fault (inv.contents tells) same (c.in_err-next.ensures.shows tells way) in
+    search (rules, shows, c.from_residual.ensures)
+
 pub returns-in-None-clause-reads : goal.returns-in-None-clause-reads
 returns-in-None-clause-reads g c = record {
   kept = call_ends g.P.Pages c.args.pages.now c.loop-turn.pages c.go_on.new.pages (Ok c.in_ok-next.next) (Ok None) (ap (λ (o : Option PageNo). Ok o) (sym c.in-None.is)) c.loop-turn.invariant.kept c.in_ok-next.ensures.reads.kept;
@@ -87,13 +102,16 @@ loop-turn-preserved g c =
     let same = inv.kept.keeps.same_shape in
     let all : List Pending = c.loop-turn.stack.items ++ children_of c.args.b.now c.loop-turn.page.bytes in
     record {
-      kept = search rules;
+      kept = one_more g.P.Pages c.args.pages.now c.loop-turn.pages c.go_on.new.pages c.in_ok-next.next inv.kept step.reads.kept;
       contents = λ tells. step.reads.contents tells ∙ inv.contents tells;
       mini = step.reads.mini ∙ inv.mini;
       inside = subst (λ (s : FileShape). p.0 < s.pages) same (subst (λ (o : Option PageNo). IfSome o (λ q. q.0 < (g.P.Pages.shape c.loop-turn.pages).pages)) c.in-Some.is step.inside);
       is = subst (λ (s : FileShape). IsPageOf s.pages c.args.owner p.0 bytes) same (subst (λ (o : Option PageNo). IfSome o (λ q. IsPageOf (g.P.Pages.shape c.loop-turn.pages).pages c.args.owner q.0 bytes)) c.in-Some.is step.is);
       stack = subst (λ (s : FileShape). AreInside s.pages c.go_on.new.stack.items) same step.left;
       read = λ tells read. subst (λ (o : Option PageNo). IfSome o (λ q. bytes ≡ page_of (g.P.Pages.contents c.loop-turn.pages) q.0)) c.in-Some.is (step.page tells) ∙ ap (λ (x : Contents). page_of x p.0) (inv.contents tells);
+      on = λ tells read.
+          let way = on_way old (g.P.Pages.contents c.loop-turn.pages) shape (g.P.Pages.shape c.loop-turn.pages) c.args.owner c.loop-turn.at.0 c.loop-turn.page.bytes c.loop-turn.stack.items (inv.contents tells) same inv.is (inv.read tells read) (inv.on tells read) in
+          children_then old (g.P.Pages.contents c.loop-turn.pages) shape (g.P.Pages.shape c.loop-turn.pages) c.args.owner c.go_on.new.stack.items (inv.contents tells) same (step.on tells way);
       looking = λ tells tree at root.
           let looked : Looked tree c.args.b.now c.args.number (suc c.loop-turn._turn) all = looked_here old shape c.args.owner tree at.is c.args.b.now c.args.number c.loop-turn._turn c.loop-turn.at.0 c.loop-turn.stack.items c.loop-turn.page.bytes (inv.read tells at.read) (inv.looking tells tree at root) (λ has. false_true (subst IsTrue c.if-has_entry.false (c.has_entry.ensures.1 has))) in
           let one : c.loop-turn._turn + 1 ≡ suc c.loop-turn._turn = omega arith in
