@@ -1,12 +1,11 @@
 -- Looking for an entry as the visits of a search over a tree that stays: each page is read once, and with none left each page that
 -- could have the entry was read.
-use Rattle.std.proofs.Common.{◌≡◌, ◌⊎◌, inl, inr, ℕ, zero, suc, ◌+◌, ◌<◌, ◌≤◌, ◌==◌, Bool, true, false, cond, Option, Some, None, List, [], ◌∷◌, ◌++◌, length, map, refl, sym, ◌∙◌, ap, subst, arith, eqb-true}
+use Rattle.std.proofs.Common.{◌≡◌, inl, inr, ℕ, zero, suc, ◌+◌, ◌≤◌, ◌==◌, Bool, true, false, cond, Option, Some, None, List, [], ◌∷◌, ◌++◌, length, refl, sym, ◌∙◌, ap, subst, arith, eqb-true}
 use Rattle.std.specs.Prelude.{is_none}
 use Rattle.std.specs.List.{cons_option, filter_map}
-use Rattle.std.proofs.lemmas.List.{append_assoc, append-nil}
+use Rattle.std.proofs.lemmas.List.{append-nil}
 use Rattle.isp_base.specs.Lists.{Has}
 use Rattle.isp_base.specs.declared.page_no.PageNo.{PageNo}
-use Rattle.isp_format.specs.Header.{header_of}
 use Rattle.isp_format.specs.Ranges.{Contents, page_of}
 use Rattle.isp_page.specs.State.{FileShape}
 use Rattle.isp_rnode.specs.Nodes.{node_of}
@@ -21,7 +20,7 @@ use Rattle.isp_forest.specs.declared.entry.To.{To}
 use Rattle.isp_forest.specs.declared.entry.To.TheVariants.{Child, Row}
 use Rattle.isp_forest.specs.Forest.{Forest, IsBelow, IsPage}
 use Rattle.isp_forest.specs.Search.{Covered, Search, Sees}
-use Rattle.isp_forest.specs.Steps.{is_among, is_row}
+use Rattle.isp_forest.specs.Steps.{is_among}
 use Rattle.isp_forest.specs.Tree.{Node, Tree, child_in, child_of, counter, page_at}
 use Rattle.isp_forest.specs.Visit.{begun, looked_at, remembered, to_visit, visit, visited_at}
 use Rattle.isp_forest.specs.Walk.{split_since}
@@ -31,11 +30,11 @@ use Rattle.isp_searches.specs.SearchLaws.{IsVisit, VisitedOnce, Visits}
 use Rattle.isp_searches.proofs.SeesLaws.{stays_here}
 use Rattle.isp_searches.proofs.VisitOnceLaws.{visits_once}
 use Rattle.isp_searches.proofs.VisitSearchLaws.{begun_covered, visit_covered}
-use Rattle.isp_rfind.specs.Finding.{Finds, HasEntry, HasSought, IsSought}
+use Rattle.isp_rfind.specs.Finding.{Finds, HasEntry}
 use Rattle.isp_rfind.specs.Stack.{AreNext, Takes, children_of, pending_in, pending_of}
 use Rattle.isp_rfind.specs.declared.pending.Pending.{Pending}
 use Rattle.isp_rtree.specs.Trees.{IsTreeIn}
-use Rattle.isp_rtree.proofs.TreeLaws.{Next, level_is, next_of, reads_tree}
+use Rattle.isp_rtree.proofs.TreeLaws.{level_is, next_of, reads_tree}
 
 -- the search that asks for the box
 abbrev equals : Corners → Predicate
@@ -283,7 +282,7 @@ pub looked_here : (contents : Contents) (shape : FileShape) (owner : ℕ) (tree 
 looked_here contents shape owner tree is b number n q stack bytes read l lacks =
     let means : node_of bytes ≡ l.page = reads_tree contents shape owner tree is q l.page l.there bytes read in
     let same : children_of b bytes ≡ filter_map (pending_of l.page.level b) l.page.entries =
-        ap (λ (level : ℕ). filter_map (pending_of level b) (node_of bytes).entries) (sym (level_is bytes)) ∙ ap (λ (x : Node). filter_map (pending_of x.level b) x.entries) means in
+    ap (λ (level : ℕ). filter_map (pending_of level b) (node_of bytes).entries) (sym (level_is bytes)) ∙ ap (λ (x : Node). filter_map (pending_of x.level b) x.entries) means in
     looks tree is.forest b number n q stack (stack ++ children_of b bytes) l (λ has. lacks (subst (λ (x : Node). HasEntry x b number) (sym means) has)) (ap (λ (xs : List Pending). stack ++ xs) same)
 
 pub takes_none : (tree : Tree) → Forest tree → (b : Corners) (number n : ℕ) (all left : List Pending) → Takes all None left → Looked tree b number n all → Finds tree b number None

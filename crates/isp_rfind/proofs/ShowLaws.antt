@@ -1,5 +1,5 @@
 -- What is wrong with a page that is named.
-use Rattle.std.proofs.Common.{◌≡◌, inl, inr, ℕ, suc, List, [], ◌∷◌, ◌++◌, refl, sym, ◌∙◌, ap, subst}
+use Rattle.std.proofs.Common.{◌≡◌, inl, inr, ℕ, suc, List, [], ◌∷◌, ◌++◌, sym, ◌∙◌, ap, subst}
 use Rattle.isp_base.specs.Lists.{Has}
 use Rattle.isp_format.specs.Header.{header_of}
 use Rattle.isp_format.specs.Ranges.{Contents, page_of}

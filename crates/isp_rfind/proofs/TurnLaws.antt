@@ -1,5 +1,5 @@
 -- A call behind a loop's turns so far.
-use Rattle.std.proofs.Common.{rules, ◌≡◌, ap, sym, ◌∙◌, subst}
+use Rattle.std.proofs.Common.{rules, ◌≡◌, sym, subst}
 use Rattle.std.specs.Prelude.{Result, Ok, Err, ⊤}
 use Rattle.isp_page.specs.Calls.{ContinuesOrLacks}
 use Rattle.isp_page.specs.declared.fault.Fault.{Fault}

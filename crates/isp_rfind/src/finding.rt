@@ -46,7 +46,7 @@ pub fn find<P: Pages>(
         → IfOk result (Finds tree b.now number) }
     ensures only { P.tells → IfOk result (λ leaf. (owner : ℕ) × HasRoot P.Pages pages.old owner root.0
         × IfSome leaf (λ p. HasPage P.Pages pages.old owner p.0
-            × HasEntry (node_of (page_of (P.contents pages.old) p.0)) b.now number)) }
+        × HasEntry (node_of (page_of (P.contents pages.old) p.0)) b.now number)) }
     ensures sound { P.tells → (owner : ℕ) (tree : Tree) → HasTree P.Pages pages.old owner root.0 tree
         → IfErr result IsNoDamageOrLacks }
     ensures shows { P.tells → IfErr result
@@ -78,7 +78,7 @@ fn search<P: Pages>(
         → tree.root ≡ root.0 → IfOk result (Finds tree b.now number) }
     ensures only { P.tells → page.old.bytes ≡ page_of (P.contents pages.old) root.0
         → IfOk result (λ leaf. IfSome leaf (λ p. HasPage P.Pages pages.old owner p.0
-            × HasEntry (node_of (page_of (P.contents pages.old) p.0)) b.now number)) }
+        × HasEntry (node_of (page_of (P.contents pages.old) p.0)) b.now number)) }
     ensures sound { P.tells → (tree : Tree)
         → IsAtPage (P.contents pages.old) (P.shape pages.old) owner tree root.0 page.old.bytes
         → tree.root ≡ root.0 → IfErr result IsNoDamageOrLacks }
@@ -195,12 +195,7 @@ fn add_children(stack: &mut Vec<Pending>, p: &Page, b: &Box4) -> Result<(), Allo
 }
 
 // Adds the page that an entry leads to, if its box covers that one.
-fn add_child(
-    stack: &mut Vec<Pending>,
-    e: &Entry,
-    above: u8,
-    b: &Box4,
-) -> Result<(), AllocError>
+fn add_child(stack: &mut Vec<Pending>, e: &Entry, above: u8, b: &Box4) -> Result<(), AllocError>
     ensures { OnOk result (stack.new.items
         ≡ stack.old.items ++ cons_option (pending_of above b.now e.now) []) }
 {

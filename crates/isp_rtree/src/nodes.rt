@@ -89,11 +89,7 @@ pub(crate) fn read_node<P: Pages>(
 /// # Errors
 ///
 /// Disk; or Damaged, with that page and rule 9, where it is no page of an R-tree, or stands more than 16 levels above the leaves.
-pub fn read_root<P: Pages>(
-    pages: &mut P,
-    root: PageNo,
-    into: &mut Page,
-) -> Result<u32, StoreFault>
+pub fn read_root<P: Pages>(pages: &mut P, root: PageNo, into: &mut Page) -> Result<u32, StoreFault>
     requires usable { P.usable pages.old ≡ true }
     requires page { root.0 < (P.shape pages.old).pages }
     ensures reads { ReadsPages P.Pages (NamesPage root.0) pages.old pages.new result }

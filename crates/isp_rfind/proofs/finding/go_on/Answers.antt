@@ -1,5 +1,4 @@
-use Rattle.std.proofs.Common.{rules, ◌≡◌, ◌<◌, ◌++◌, ℕ, List, sym, subst}
-use Rattle.isp_format.specs.Ranges.{page_of}
+use Rattle.std.proofs.Common.{rules, ◌<◌, ℕ, List, sym, subst}
 use Rattle.isp_rfind.specs.Stack.{AreInside, AreNext}
 use Rattle.isp_rfind.specs.Walks.{AreChildren}
 use Rattle.isp_rfind.specs.declared.pending.Pending.{Pending}

@@ -1,4 +1,4 @@
-use Rattle.std.proofs.Common.{◌≡◌, ℕ, true, false, Some, refl, sym, subst, arith}
+use Rattle.std.proofs.Common.{false, refl, subst, arith}
 use Rattle.std.specs.Prelude.{IsTrue}
 use Rattle.std.proofs.lemmas.Option.{slice_get_within}
 use Rattle.isp_forest.specs.declared.entry.Entry.{Entry}

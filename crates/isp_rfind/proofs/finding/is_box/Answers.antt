@@ -1,4 +1,4 @@
-use Rattle.std.proofs.Common.{◌≡◌, true, sym, ◌∙◌, ap}
+use Rattle.std.proofs.Common.{sym, ◌∙◌, ap}
 use Rattle.isp_mbr.specs.Boxes.{same}
 use Rattle.isp_mbr.specs.Corners.{Corners}
 use Rattle.isp_mbr.proofs.BoxLaws.{same_refl, same_then}
