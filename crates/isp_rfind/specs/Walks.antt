@@ -7,6 +7,7 @@ use Rattle.isp_page.specs.declared.fault.Fault.{Fault}
 use Rattle.isp_page.specs.declared.fault.Fault.TheVariants.{Memory, Store}
 use Rattle.isp_page.specs.declared.fault.StoreFault.{StoreFault}
 use Rattle.isp_page.specs.declared.fault.StoreFault.TheVariants.{Damaged, Disk, Print}
+use Rattle.isp_page.specs.declared.pages.Pages.{Ghosts}
 use Rattle.isp_rnode.specs.Nodes.{node_of}
 use Rattle.isp_rtree.specs.Paths.{LeadsTo}
 use Rattle.isp_rtree.specs.Trees.{IsPageOf, IsRootOf}
@@ -71,3 +72,17 @@ pub record IsOnWay (contents : Contents) (pages owner : ℕ) (bytes : List ℕ) 
   pub page : IsPageOf pages owner at bytes
   pub read : bytes ≡ page_of contents at
   pub others : AreChildren contents pages owner stack
+
+-- ---- the same in a store of pages
+
+abbrev pub Shows : {S : Type 0} → Ghosts S → S → ℕ → Fault → Type 0
+Shows g now root = ShowsOrLacks (g.contents now) (g.shape now).pages root
+
+abbrev pub ShowsChild : {S : Type 0} → Ghosts S → S → ℕ → Fault → Type 0
+ShowsChild g now owner = ShowsChildOrLacks (g.contents now) (g.shape now).pages owner
+
+abbrev pub HasChildren : {S : Type 0} → Ghosts S → S → ℕ → List Pending → Type 0
+HasChildren g now owner stack = AreChildren (g.contents now) (g.shape now).pages owner stack
+
+abbrev pub HasWay : {S : Type 0} → Ghosts S → S → ℕ → List ℕ → List Pending → Type 0
+HasWay g now owner bytes stack = IsOnWay (g.contents now) (g.shape now).pages owner bytes stack

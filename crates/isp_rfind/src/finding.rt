@@ -7,11 +7,11 @@ ghost use Rattle.isp_page.specs.declared.fault.Fault.TheVariants.{Store};
 ghost use Rattle.isp_page.specs.declared.fault.StoreFault.TheVariants.{Damaged};
 ghost use Rattle.isp_forest.specs.Tree.{Tree};
 ghost use Rattle.isp_rnode.specs.Nodes.{IsReadable, node_of};
-ghost use Rattle.isp_rtree.specs.Calls.{HasPage, HasRoot, HasTree, NamesTreeOrLacks, ReadsPagesOrLacks};
-ghost use Rattle.isp_rfind.specs.Walks.{AreChildren, IsOnWay, NamesWalkOrLacks, ShowsChildOrLacks, ShowsOrLacks};
-ghost use Rattle.isp_rfind.specs.Finding.{Finds, HasEntry, IsSought};
-ghost use Rattle.isp_rfind.specs.Stack.{AreInside, AreNext, Takes, children_of, pending_in, pending_of};
+ghost use Rattle.isp_rtree.specs.Calls.{HasRoot, HasTree, NamesTreeOrLacks, ReadsPagesOrLacks};
 ghost use Rattle.isp_rtree.specs.Trees.{IsAtPage, IsPageOf, IsRead, IsTreeIn};
+ghost use Rattle.isp_rfind.specs.Finding.{Finds, HasEntry, HasFound, IsSought};
+ghost use Rattle.isp_rfind.specs.Stack.{AreInside, AreNext, Takes, children_of, pending_in, pending_of};
+ghost use Rattle.isp_rfind.specs.Walks.{HasChildren, HasWay, NamesWalkOrLacks, Shows, ShowsChild};
 
 use crate::pending::Pending;
 use isp_format::{Page, PageNo, level_of};
@@ -29,8 +29,9 @@ const BUDGET: u32 = 13;
 ///
 /// # Errors
 ///
-/// Want of memory; Disk; or Damaged: with the page that shows it and rule 9, as of `path_stands`; with the page that was read
-/// last and rule 13, where more pages were read than the file has.
+/// Want of memory; Disk; or Damaged: with the page that shows it and rule 9, where a page that is read is no page of an R-tree
+/// of the root's owner, or isn't one level below the one that leads to it, or the root is more than 16 levels above the leaves;
+/// with the page that was read last and rule 13, where more pages were read than the file has.
 pub fn find<P: Pages>(
     alloc: Global,
     pages: &mut P,
@@ -45,12 +46,10 @@ pub fn find<P: Pages>(
     ensures found { P.tells → (owner : ℕ) (tree : Tree) → HasTree P.Pages pages.old owner root.0 tree
         → IfOk result (Finds tree b.now number) }
     ensures only { P.tells → IfOk result (λ leaf. (owner : ℕ) × HasRoot P.Pages pages.old owner root.0
-        × IfSome leaf (λ p. HasPage P.Pages pages.old owner p.0
-        × HasEntry (node_of (page_of (P.contents pages.old) p.0)) b.now number)) }
+        × HasFound P.Pages pages.old owner b.now number leaf) }
     ensures sound { P.tells → (owner : ℕ) (tree : Tree) → HasTree P.Pages pages.old owner root.0 tree
         → IfErr result IsNoDamageOrLacks }
-    ensures shows { P.tells → IfErr result
-        (ShowsOrLacks (P.contents pages.old) (P.shape pages.old).pages root.0) }
+    ensures shows { P.tells → IfErr result (Shows P.Pages pages.old root.0) }
 {
     let mut page = Page::zeros();
     let owner = read_root(pages, root, &mut page)?;
@@ -77,13 +76,12 @@ fn search<P: Pages>(
         → IsAtPage (P.contents pages.old) (P.shape pages.old) owner tree root.0 page.old.bytes
         → tree.root ≡ root.0 → IfOk result (Finds tree b.now number) }
     ensures only { P.tells → page.old.bytes ≡ page_of (P.contents pages.old) root.0
-        → IfOk result (λ leaf. IfSome leaf (λ p. HasPage P.Pages pages.old owner p.0
-        × HasEntry (node_of (page_of (P.contents pages.old) p.0)) b.now number)) }
+        → IfOk result (HasFound P.Pages pages.old owner b.now number) }
     ensures sound { P.tells → (tree : Tree)
         → IsAtPage (P.contents pages.old) (P.shape pages.old) owner tree root.0 page.old.bytes
         → tree.root ≡ root.0 → IfErr result IsNoDamageOrLacks }
-    ensures shows { P.tells → page.old.bytes ≡ page_of (P.contents pages.old) root.0 → IfErr result
-        (ShowsChildOrLacks (P.contents pages.old) (P.shape pages.old).pages owner) }
+    ensures shows { P.tells → page.old.bytes ≡ page_of (P.contents pages.old) root.0
+        → IfErr result (ShowsChild P.Pages pages.old owner) }
 {
     let count = pages.pages();
     let mut stack = Vec::new(alloc);
@@ -126,10 +124,10 @@ fn go_on<P: Pages>(
         → IsTreeIn (P.contents pages.old) (P.shape pages.old) owner tree
         → AreNext tree (stack.old.items ++ children_of b.now page.old.bytes)
         → IfErr result IsNoDamageOrLacks }
-    ensures on { P.tells → IsOnWay (P.contents pages.old) (P.shape pages.old).pages owner page.old.bytes stack.old.items
-        → OnOk result (AreChildren (P.contents pages.old) (P.shape pages.old).pages owner stack.new.items) }
-    ensures shows { P.tells → IsOnWay (P.contents pages.old) (P.shape pages.old).pages owner page.old.bytes stack.old.items
-        → IfErr result (ShowsChildOrLacks (P.contents pages.old) (P.shape pages.old).pages owner) }
+    ensures on { P.tells → HasWay P.Pages pages.old owner page.old.bytes stack.old.items
+        → OnOk result (HasChildren P.Pages pages.old owner stack.new.items) }
+    ensures shows { P.tells → HasWay P.Pages pages.old owner page.old.bytes stack.old.items
+        → IfErr result (ShowsChild P.Pages pages.old owner) }
 {
     add_children(stack, page, b)?;
     match stack.pop() {
