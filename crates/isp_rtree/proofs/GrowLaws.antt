@@ -1,14 +1,13 @@
 -- What grows on a path, page by page.
-use Rattle.std.proofs.Common.{rules, ◌≡◌, ℕ, ◌+◌, ◌<◌, Option, Some, List, [], ◌∷◌, ◌++◌, length, refl, sym, ◌∙◌, ap, subst}
+use Rattle.std.proofs.Common.{rules, ◌≡◌, ℕ, Some, List, [], ◌∷◌, ◌++◌, refl, sym, ◌∙◌, ap, subst}
 use Rattle.std.specs.Prelude.{Ok}
 use Rattle.std.proofs.lemmas.List.{append_assoc, append-nil}
-use Rattle.isp_base.specs.Lists.{Has}
 use Rattle.isp_format.specs.Ranges.{Contents, page_of}
 use Rattle.isp_mbr.specs.Corners.{Corners}
 use Rattle.isp_page.specs.Calls.{Continued, Continues}
 use Rattle.isp_page.specs.State.{FileShape}
 use Rattle.isp_page.specs.declared.pages.Pages.{Ghosts}
-use Rattle.isp_forest.specs.Place.{IsPath, Stands}
+use Rattle.isp_forest.specs.Place.{IsPath}
 use Rattle.isp_forest.specs.Tree.{Node, Tree, page_at}
 use Rattle.isp_rnode.specs.Nodes.{node_of}
 use Rattle.isp_rtree.specs.Growing.{AreGrowths, IsGrowth, IsGrowthOf}

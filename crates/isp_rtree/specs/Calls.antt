@@ -1,9 +1,9 @@
 -- What the calls of a tree ask of a store of pages, and what they leave alone; at a bound `P: Pages`, cited as
 -- `HasTree P.Pages pages.old owner root.0 tree`.
-use Rattle.std.specs.Prelude.{◌≡◌, ℕ, ◌⊎◌, ◌<◌, Result, IfErr, OnOk, ⊤}
+use Rattle.std.specs.Prelude.{◌≡◌, ℕ, ◌<◌, Result, IfErr, OnOk, ⊤}
 use Rattle.isp_forest.specs.Tree.{Tree}
 use Rattle.isp_format.specs.Ranges.{page_of}
-use Rattle.isp_format.specs.Rules.{rtree_rule, walk_rule}
+use Rattle.isp_format.specs.Rules.{rtree_rule}
 use Rattle.isp_page.specs.Calls.{ContinuesOrLacks}
 use Rattle.isp_page.specs.declared.fault.Fault.{Fault}
 use Rattle.isp_page.specs.declared.fault.Fault.TheVariants.{Memory, Store}
@@ -37,16 +37,6 @@ NamesTree pages (Damaged page rule) = (page < pages) × (rule ≡ rtree_rule)
 abbrev pub NamesTreeOrLacks : ℕ → Fault → Type 0
 NamesTreeOrLacks pages (Store fault) = NamesTree pages fault
 NamesTreeOrLacks pages Memory = ⊤
-
--- or it is the one at which more pages were read than the file has
-abbrev pub NamesWalk : ℕ → StoreFault → Type 0
-NamesWalk pages Disk = ⊤
-NamesWalk pages Print = ⊤
-NamesWalk pages (Damaged page rule) = (page < pages) × ((rule ≡ rtree_rule) ⊎ (rule ≡ walk_rule))
-
-abbrev pub NamesWalkOrLacks : ℕ → Fault → Type 0
-NamesWalkOrLacks pages (Store fault) = NamesWalk pages fault
-NamesWalkOrLacks pages Memory = ⊤
 
 -- a call that reads pages and takes memory, and names such pages where they aren't what they should be
 pub record ReadsPagesOrLacks {S T : Type 0} (g : Ghosts S) (Names : Fault → Type 0) (old new : S) (result : Result T Fault) : Type 0 where

@@ -83,11 +83,11 @@ pub(crate) fn read_node<P: Pages>(
 }
 
 /// Reads the root of a tree into `into`, and answers the tree's owner.
-pub(crate) fn read_root<P: Pages>(
-    pages: &mut P,
-    root: PageNo,
-    into: &mut Page,
-) -> Result<u32, StoreFault>
+///
+/// # Errors
+///
+/// Disk; or Damaged, with that page and rule 9, where it is no page of an R-tree, or stands more than 16 levels above the leaves.
+pub fn read_root<P: Pages>(pages: &mut P, root: PageNo, into: &mut Page) -> Result<u32, StoreFault>
     requires usable { P.usable pages.old ≡ true }
     requires page { root.0 < (P.shape pages.old).pages }
     ensures reads { ReadsPages P.Pages (NamesPage root.0) pages.old pages.new result }
@@ -116,7 +116,11 @@ fn is_root_of(p: &Page, pages: u32, owner: u32, own: PageNo) -> bool
 }
 
 /// Reads a page of the tree of that owner, one level below a page of that level, into `into`.
-pub(crate) fn read_below<P: Pages>(
+///
+/// # Errors
+///
+/// Disk; or Damaged, with that page and rule 9, where it is no page of an R-tree of that owner, or isn't on that level.
+pub fn read_below<P: Pages>(
     pages: &mut P,
     owner: u32,
     p: PageNo,

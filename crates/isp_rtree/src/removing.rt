@@ -110,8 +110,8 @@ fn keep(kept: &mut [Entry; MOST_ENTRIES], count: usize, e: Entry, number: u64) -
     count + 1
 }
 
-// Whether the entry is a row's with that number.
-fn has_number(to: To, number: u64) -> bool
+/// Whether an entry is a row's with that number.
+pub fn has_number(to: To, number: u64) -> bool
     ensures { result ≡ is_row number to }
 {
     match to {

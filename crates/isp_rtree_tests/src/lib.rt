@@ -6,6 +6,8 @@
 #![tactic(auto)]
 
 #[cfg(test)]
+mod finding;
+#[cfg(test)]
 mod making;
 #[cfg(test)]
 mod removing;

@@ -2,6 +2,7 @@
 ghost use Rattle.std.specs.Prelude.{◌≡◌, ◌<◌, true, OnOk};
 ghost use Rattle.isp_page.specs.State.{none_begun};
 
+use crate::finding::found;
 use crate::making::{Leaf, Spot, TREE, write_all};
 use crate::seen::sees_all;
 use isp_format::PageNo;
@@ -58,4 +59,18 @@ fn is_gone(alloc: Global) -> Result<bool, Fault> {
 #[test]
 fn a_removed_entry_is_gone(rt: HostRuntime) {
     assert!(rt; is_gone(rt.alloc()) == Ok(true));
+}
+
+fn is_lost(alloc: Global) -> Result<bool, Fault> {
+    let mut pages = MemPages::new(alloc, 128, 4, 0)?;
+    write_all(alloc, &mut pages, &TREE)?;
+    take_out(&mut pages, 4)?;
+    let gone = found(alloc, &mut pages, [5, 5, 5, 5], 4)?;
+    let there = found(alloc, &mut pages, [9, 2, 9, 2], 6)?;
+    Ok(gone == 0 && there == 19)
+}
+
+#[test]
+fn a_removed_entry_is_not_found(rt: HostRuntime) {
+    assert!(rt; is_lost(rt.alloc()) == Ok(true));
 }

@@ -1,8 +1,8 @@
-use Rattle.std.proofs.Common.{rules, ℕ, ◌≡◌, ◌<◌, List, [], ◌∷◌, length, get_or, sym, ◌∙◌, ap, subst, arith}
+use Rattle.std.proofs.Common.{rules, ℕ, ◌≡◌, ◌<◌, List, [], ◌∷◌, length, get_or, sym, ◌∙◌, subst, arith}
 use Rattle.isp_base.specs.declared.page_no.PageNo.{PageNo}
-use Rattle.isp_format.specs.Ranges.{Contents, page_of}
+use Rattle.isp_format.specs.Ranges.{Contents}
 use Rattle.isp_page.specs.State.{FileShape}
-use Rattle.isp_forest.specs.Place.{IsPath, Stands}
+use Rattle.isp_forest.specs.Place.{Stands}
 use Rattle.isp_rtree.specs.Growing.{AreGrowths}
 use Rattle.isp_rtree.specs.Paths.{numbers_of}
 use Rattle.isp_rtree.specs.Trees.{IsAtPage, IsPageOf, IsTreeAt}

@@ -1,4 +1,4 @@
-use Rattle.std.proofs.Common.{rules, ℕ, ◌≡◌, ◌+◌, ◌<◌, suc, List, [], ◌∷◌, drop, get_or, length, refl, sym, ◌∙◌, ap, subst, arith}
+use Rattle.std.proofs.Common.{rules, ℕ, ◌≡◌, ◌+◌, ◌<◌, suc, List, ◌∷◌, drop, get_or, length, refl, sym, ◌∙◌, ap, subst, arith}
 use Rattle.isp_base.specs.declared.page_no.PageNo.{PageNo}
 use Rattle.isp_format.specs.Header.{header_of}
 use Rattle.isp_format.specs.Ranges.{Contents, page_of}
@@ -7,7 +7,7 @@ use Rattle.isp_rnode.specs.Nodes.{node_of}
 use Rattle.isp_rtree.specs.Paths.{LeadsTo, numbers_of}
 use Rattle.isp_rtree.specs.Trees.{IsPageOf}
 use Rattle.isp_rtree.specs.declared.growing.Growth.{Growth}
-use Rattle.isp_rtree.proofs.GrowLaws.{Grows, GrowsWith, grows_all, grows_leads, grows_none, grows_on, one_more}
+use Rattle.isp_rtree.proofs.GrowLaws.{GrowsWith, grows_all, grows_leads, grows_none, grows_on, one_more}
 use Rattle.isp_rtree.proofs.PathLaws.{Below, ahead, below_of, none_ahead}
 use Rattle.isp_rtree.proofs.growing.grow_below.Goals as goal
 

@@ -1,0 +1,4 @@
+mod FindLaws
+mod ShowLaws
+mod StackLaws
+mod TurnLaws
