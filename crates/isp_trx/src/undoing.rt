@@ -16,6 +16,7 @@ ghost use Rattle.isp_trx.specs.Roots.{AreWithin, numbers_of};
 ghost use Rattle.isp_trx.specs.Transactions.{HasUndone};
 ghost use Rattle.isp_trx.specs.Writes.{CanUndo, Undoes};
 
+use crate::images::ABSENT_KIND;
 use crate::roots::root_of;
 use crate::trx::Trx;
 use isp_clustered::{mark, rewrite};
@@ -23,9 +24,6 @@ use isp_format::{MOST_SLOT, PageNo, UNDO_DIRECTORY_PAGE, UNDO_RULE};
 use isp_page::{Pages, StoreFault};
 use isp_undo::{UndoBuf, last, pop};
 use isp_undo_pages::MARKED_KIND;
-
-// The kind of an old row where nothing stood.
-const ABSENT_KIND: u8 = 0;
 
 // An old row that nothing was read into.
 const NOTHING: UndoBuf = UndoBuf {
