@@ -1,5 +1,5 @@
 -- The two parts of a write, by the calls below.
-use Rattle.std.proofs.Common.{◌≡◌, ℕ, ℤ, Bool, true, false, List, [], length, sym, ◌∙◌, ap, subst}
+use Rattle.std.proofs.Common.{◌≡◌, ℕ, ℤ, Bool, true, false, List, length, sym, ◌∙◌, ap, subst}
 use Rattle.std.specs.Prelude.{OnOk, Result, Ok, Err}
 use Rattle.isp_clustered.specs.Puts.{CanPut, IsPut}
 use Rattle.isp_clustered.specs.Rows.{with_row}

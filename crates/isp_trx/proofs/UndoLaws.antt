@@ -1,6 +1,6 @@
 -- The newest old row of a slot that is put back in a file with chains, and noted no more.
-use Rattle.std.proofs.Common.{◌≡◌, ◌≢◌, ℕ, zero, suc, pred, ◌<◌, ◌≤◌, ◌==◌, ℤ, Bool, true, false, List, [], ◌∷◌, ◌++◌, length, map, reverse, Option, Some, None, refl, sym, ◌∙◌, ap, subst, arith, if◌then◌else◌}
-use Rattle.std.specs.Prelude.{Result, Ok, Err, OnOk, nat_le, slice_get, slice_set}
+use Rattle.std.proofs.Common.{◌≡◌, ℕ, zero, suc, pred, ◌≤◌, ◌==◌, ℤ, Bool, true, false, List, [], ◌∷◌, ◌++◌, length, map, reverse, Option, Some, None, refl, sym, ◌∙◌, ap, subst, arith, if◌then◌else◌}
+use Rattle.std.specs.Prelude.{Result, Ok, Err, OnOk, nat_le, slice_get}
 use Rattle.std.specs.List.{AllByRecursion, list_any}
 use Rattle.std.specs.Option.{option_map}
 use Rattle.std.proofs.lemmas.Bool.Decides.{nat_tests}
@@ -34,7 +34,7 @@ use Rattle.isp_chained.specs.Steps.{AreApart, AreDisjoint, IsFreeIn, are_of_one}
 use Rattle.isp_chained.proofs.DatabaseLaws.{exchanged_now, undone_committed}
 use Rattle.isp_chained.proofs.HoldLaws.{regrown_holds, table_now}
 use Rattle.isp_chained.proofs.SlotLaws.{stack_of}
-use Rattle.isp_chained.proofs.WrittenLaws.{NewestOf, UndoneFile, in_order, newest_among, slot_newest, undone_file}
+use Rattle.isp_chained.proofs.WrittenLaws.{NewestOf, newest_among, slot_newest, undone_file}
 use Rattle.isp_trx.specs.Backs.{CanTake, PutsBack, Takes, TakesAt, fits_in, put_in}
 use Rattle.isp_trx.specs.Writes.{CanUndo, Undid, UndidIf, Undoes}
 use Rattle.isp_trx.proofs.RowLaws.{found_in_tree, same_slot}
@@ -350,8 +350,8 @@ can_take pages old chains slot chain count roots image root d can last here = re
 }
 
 pub takes_at_on : {T E : Type 0} (result : Result T E) (pages : ℕ) (old new : Contents) (slot : ℕ) (image : OldImage) (roots : List ℕ) (root : ℕ) → slice_get roots (pred image.table) ≡ Some root → OnOk result (Takes pages old slot image root new) → OnOk result (TakesAt pages old slot image roots new)
-takes_at_on (Ok x) pages old new slot image roots root here takes = record { makes = λ chains chain count d can last. takes.makes chains chain d (can_take pages old chains slot chain (suc count) roots image root d can last here) }
-takes_at_on (Err e) pages old new slot image roots root here takes = tt
+takes_at_on (Ok x) pages old new slot image roots root at takes = record { makes = λ chains chain count d can last. takes.makes chains chain d (can_take pages old chains slot chain (suc count) roots image root d can last at) }
+takes_at_on (Err e) pages old new slot image roots root at takes = tt
 
 -- its table has a root
 pub root_there : (pages : ℕ) (old : Contents) (chains : List Chain) (slot : ℕ) (chain : Chain) (count : ℕ) (roots : List ℕ) (image : OldImage) (d : Database) → CanUndo pages old chains slot chain count roots d → newest_of chain ≡ Some image
@@ -410,5 +410,5 @@ undoes_is pages old new slot own some count roots slot_is count_is done =
     subst (λ (n : ℕ). Undoes pages old own n roots new) count_is (subst (λ (n : ℕ). Undoes pages old n some roots new) slot_is done)
 
 pub can_undo_is : (pages : ℕ) (old : Contents) (chains : List Chain) (slot own : ℕ) (chain : Chain) (some count : ℕ) (roots : List ℕ) (d : Database) → slot ≡ own → some ≡ count → CanUndo pages old chains own chain count roots d → CanUndo pages old chains slot chain some roots d
-can_undo_is pages old chains slot own chain some count roots d slot_is count_is can =
+can_undo_is pages old chains slot mine chain some count roots d slot_is count_is can =
     subst (λ (n : ℕ). CanUndo pages old chains slot chain n roots d) (sym count_is) (subst (λ (n : ℕ). CanUndo pages old chains n chain count roots d) (sym slot_is) can)

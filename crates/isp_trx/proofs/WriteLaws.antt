@@ -1,22 +1,22 @@
 -- A row that is written in a file with chains, in its two parts: what stood there is pushed, and then the row's tree changed. A file with
 -- chains comes of it again, in which what stood there is the newest old row of the slot.
-use Rattle.std.proofs.Common.{◌≡◌, ℕ, zero, suc, pred, ◌+◌, ◌-◌, ◌<◌, ◌≤◌, ℤ, Bool, true, false, List, [], ◌∷◌, ◌++◌, length, map, Option, Some, None, refl, sym, ◌∙◌, ap, subst, arith, inl, inr, if◌then◌else◌}
-use Rattle.std.specs.Prelude.{◌⊎◌, ◌&&◌, nat_le, nat_lt, slice_get, slice_set}
+use Rattle.std.proofs.Common.{◌≡◌, ℕ, zero, suc, pred, ◌+◌, ◌<◌, ◌≤◌, ℤ, Bool, true, false, List, [], ◌∷◌, ◌++◌, length, map, Option, Some, None, refl, sym, ◌∙◌, ap, subst, arith, inl, inr, if◌then◌else◌}
+use Rattle.std.specs.Prelude.{◌⊎◌, ◌&&◌, nat_le, nat_lt, slice_set}
 use Rattle.std.specs.Option.{option_map}
 use Rattle.std.proofs.lemmas.Bool.Decides.{nat_tests}
 use Rattle.isp_format.specs.Leaf.{Stored, slot_of}
 use Rattle.isp_format.specs.Ranges.{Contents}
 use Rattle.isp_format.specs.Undo.{OldImage}
 use Rattle.isp_plain.specs.declared.value.Row.{Row}
-use Rattle.isp_changes.specs.Changes.{after_change, image_of as image_in, row_in}
-use Rattle.isp_space.specs.Spaces.{Space, free_pages, has_room, most_counted, next_free, taken}
+use Rattle.isp_changes.specs.Changes.{after_change}
+use Rattle.isp_space.specs.Spaces.{Space, free_pages, most_counted, next_free, taken}
 use Rattle.isp_clustered.specs.Cells.{kept_of}
-use Rattle.isp_clustered.specs.Puts.{IsPut, most_put, taken_times}
+use Rattle.isp_clustered.specs.Puts.{IsPut, most_put}
 use Rattle.isp_clustered.specs.Rows.{exchanged, find, may_put, new_row, rewritten, slot_holds, slot_less, with_row}
 use Rattle.isp_clustered.specs.Trees.{IsEdited, IsTree, Tree, holds, on_leaves, rows_of}
 use Rattle.isp_clustered.proofs.TreeLaws.{written_at}
-use Rattle.isp_image.specs.Courses.{IsPutSpace, change_at, stood, stood_at}
-use Rattle.isp_image.specs.Databases.{Database, FileImage, FileRow, FileTable, back_of, image_of, row_key, seen, tables_of}
+use Rattle.isp_image.specs.Courses.{IsPutSpace, stood, stood_at}
+use Rattle.isp_image.specs.Databases.{Database, FileRow, FileTable, image_of, row_key, tables_of}
 use Rattle.isp_image.specs.Files.{IsFileRow, IsFileTable, IsSpelling, KeptFile}
 use Rattle.isp_image.specs.Keyed.{found, placed}
 use Rattle.isp_image.proofs.FileLaws.{Regrown, stored_of, with_table}
@@ -38,7 +38,7 @@ use Rattle.isp_chained.proofs.SlotLaws.{pushed_holds, stack_of}
 use Rattle.isp_chained.proofs.WrittenLaws.{WrittenFile, stood_image, written_file}
 use Rattle.isp_trx.specs.Noting.{CanWriteTree, PushesOld, Write, WritesTree, is_put, is_smaller}
 use Rattle.isp_trx.specs.Transactions.{old_image}
-use Rattle.isp_trx.specs.Writes.{CanWrite, Writes, Wrote, change_of, place_of}
+use Rattle.isp_trx.specs.Writes.{CanWrite, Writes, Wrote, place_of}
 use Rattle.isp_trx.specs.declared.keys.RowKey.{RowKey}
 use Rattle.isp_trx.proofs.RowLaws.{found_in_tree, same_slot}
 

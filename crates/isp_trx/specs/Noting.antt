@@ -1,6 +1,6 @@
 -- A row that is written, in two parts: what stands at its key is pushed onto the undo chain of a slot, and then the row is put into the
 -- tree, or written into the slot of its key.
-use Rattle.std.specs.Prelude.{◌≡◌, ℕ, ◌≤◌, ℤ, Bool, true, false, nat_lt, List, length, Option, Some, None}
+use Rattle.std.specs.Prelude.{◌≡◌, ℕ, Bool, true, false, nat_lt, List, length, Option, Some, None}
 use Rattle.isp_clustered.specs.Puts.{CanPut, IsPut}
 use Rattle.isp_clustered.specs.Rows.{with_row}
 use Rattle.isp_clustered.specs.Trees.{IsEdited, IsTree, Tree, holds}

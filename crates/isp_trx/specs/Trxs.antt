@@ -1,5 +1,5 @@
 -- A transaction's fields as its value.
-use Rattle.std.specs.Prelude.{ℕ, ◌-◌, ◌<◌, ◌≤◌, length, vec_capacity, vec_len}
+use Rattle.std.specs.Prelude.{◌-◌, ◌<◌, ◌≤◌, length, vec_capacity, vec_len}
 use Rattle.isp_format.specs.Undo.{undo_slots}
 use Rattle.isp_trx.specs.declared.trx.Trx.TheInside.{Inside}
 use Rattle.isp_trx.specs.Transactions.{TrxState}

@@ -10,10 +10,11 @@ use isp_clustered::Kept;
 use isp_format::MOST_SLOT;
 use isp_undo_pages::{MARKED_KIND, UndoBuf};
 
-// The kinds of an entry for no row, and for one without a mark.
+// The kind of an entry where no row stood.
 pub(crate) const ABSENT_KIND: u8 = 0;
 
-pub(crate) const UNMARKED_KIND: u8 = 1;
+// That of a row without a mark.
+const UNMARKED_KIND: u8 = 1;
 
 // Copies a row to the front.
 fn copy_row(row: &[u8], into: &mut [u8; MOST_SLOT])

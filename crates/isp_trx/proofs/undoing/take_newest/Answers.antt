@@ -1,4 +1,4 @@
-use Rattle.std.proofs.Common.{rules, Bool, List, suc, map, sym, ◌∙◌, ap}
+use Rattle.std.proofs.Common.{rules, Bool, suc, map, sym, ◌∙◌, ap}
 use Rattle.isp_page.specs.State.{FileShape}
 use Rattle.isp_undo.specs.Calls.{image_if}
 use Rattle.isp_undo.specs.Chains.{ends_of}
