@@ -199,7 +199,9 @@ fn is_made(step: &Planned, made: &Made) -> bool {
     }
     match &step.moves {
         Some(m) => {
-            !made.moves.is_empty() && have_boxes(&m.entries, made.moves) && is_box(&m.round, made.round)
+            !made.moves.is_empty()
+                && have_boxes(&m.entries, made.moves)
+                && is_box(&m.round, made.round)
         }
         None => made.moves.is_empty(),
     }
