@@ -1,6 +1,6 @@
 -- How a statement ends: what it is answered and leaves, committed or not.
 use Rattle.std.proofs.Common.{◌≡◌, ℕ, ◌<◌, Bool, true, false, List, [], ◌∷◌, ◌++◌, length, map, refl, sym, ◌∙◌, ap, subst, arith, if◌then◌else◌}
-use Rattle.std.specs.Prelude.{Result, Ok, Err, IfOk}
+use Rattle.std.specs.Prelude.{Result, Ok, Err, IfErr, IfOk}
 use Rattle.isp_catalog.specs.declared.table.TableDef.{TableDef}
 use Rattle.isp_changes.specs.Changes.{RowChange, after_change, after_changes}
 use Rattle.isp_changes.specs.Stages.{BringsBack, found_full, outcome_by, ready}
@@ -19,7 +19,7 @@ use Rattle.isp_image.specs.Databases.{Database, FileImage, FileTable, HasNoMarke
 use Rattle.isp_undo.specs.Chains.{Chain}
 use Rattle.isp_chained.specs.Chained.{ChainedFile, alone, no_chains}
 use Rattle.isp_chained.specs.Laws.{OneChain}
-use Rattle.isp_chained.proofs.AloneLaws.{alone_is_none, alone_is_one}
+use Rattle.isp_chained.proofs.AloneLaws.{alone_none, alone_one}
 use Rattle.isp_chained.proofs.PlainLaws.{chained_plain}
 use Rattle.isp_chained.proofs.CourseLaws.{reaches_more, reaches_on, reaches_self}
 use Rattle.isp_page.specs.declared.fault.Fault.{Fault}
@@ -74,10 +74,10 @@ none_chained pages contents d kept = (chained_plain pages contents d kept).none
 
 -- a file without chains is one where that slot alone has an empty one
 pub as_alone : (slot pages : ℕ) (contents : Contents) (d : Database) → ChainedFile pages contents d no_chains → ChainedFile pages contents d (alone slot [])
-as_alone slot pages contents d kept = subst (λ (chains : List Chain). ChainedFile pages contents d chains) (sym (alone_is_none slot)) kept
+as_alone slot pages contents d kept = subst (λ (chains : List Chain). ChainedFile pages contents d chains) (sym (alone_none slot)) kept
 
 pub as_plain : (slot pages : ℕ) (contents : Contents) (d : Database) (chain : Chain) → chain ≡ [] → ChainedFile pages contents d (alone slot chain) → ChainedFile pages contents d no_chains
-as_plain slot pages contents d chain none kept = subst (λ (chains : List Chain). ChainedFile pages contents d chains) (ap (alone slot) none ∙ alone_is_none slot) kept
+as_plain slot pages contents d chain none kept = subst (λ (chains : List Chain). ChainedFile pages contents d chains) (ap (alone slot) none ∙ alone_none slot) kept
 
 -- the same of other pages that are as many and have the same contents
 pub kept_same : (n m : ℕ) (old new : Contents) (d : Database) (chains : List Chain) → m ≡ n → new ≡ old → ChainedFile n old d chains → ChainedFile m new d chains
@@ -310,20 +310,31 @@ answered_ok g now c state d said s is comes = record { full = false; answer_is =
 
 -- ---- a transaction ends
 
+-- what is known of a fault, where a call ends with it
+pub err_sound : {T E : Type 0} (P : E → Type 0) (result : Result T E) (e from : E) → result ≡ Err from → from ≡ e → P e → IfErr result P
+err_sound P result e from is same sound = subst (λ (r : Result _ _). IfErr r P) (sym (is ∙ ap Err same)) sound
+
+module _ {S : Type 0} (g : Ghosts S) (old : S) (defs : List TableDef) (trx : TrxState) (d : Database) (opened : IsOpen g old defs trx d) where
+  abbrev pub chains_open : List Chain
+  chains_open = alone trx.session opened.chain
+
+  one_open : OneChain trx.session opened.chain d
+  one_open = alone_one (g.shape old).pages (g.contents old) d trx.session opened.chain opened.slot opened.kept
+
+  pub can_commit : CanCommit (g.shape old).pages (g.contents old) chains_open trx.session opened.chain d
+  can_commit = record { kept = opened.kept; own = one_open.own; disjoint = one_open.disjoint }
+
 module _ {S : Type 0} (g : Ghosts S) (old new : S) (defs : List TableDef) (trx trx_now : TrxState) (d : Database) (opened : IsOpen g old defs trx d) (pages : (g.shape new).pages ≡ (g.shape old).pages) (ended : HasCommitted trx trx_now) where
   abbrev chains : List Chain
   chains = alone trx.session opened.chain
 
   one : OneChain trx.session opened.chain d
-  one = alone_is_one (g.shape old).pages (g.contents old) d trx.session opened.chain opened.slot opened.kept
-
-  pub can_commit : CanCommit (g.shape old).pages (g.contents old) chains trx.session opened.chain d
-  can_commit = record { kept = opened.kept; own = one.own; disjoint = one.disjoint }
+  one = one_open g old defs trx d opened
 
   pub commits_all : DidCommit (g.shape old).pages (g.contents new) chains trx.session opened.chain d → CommitsAll g new defs trx_now d
   commits_all k =
       let n = (g.shape new).pages in
-      let free : ChainedFile (g.shape old).pages (g.contents new) k.after no_chains = subst (λ (l : List Chain). ChainedFile (g.shape old).pages (g.contents new) k.after l) (one.next [] ∙ alone_is_none trx.session) k.kept in
+      let free : ChainedFile (g.shape old).pages (g.contents new) k.after no_chains = subst (λ (l : List Chain). ChainedFile (g.shape old).pages (g.contents new) k.after l) (one.next [] ∙ alone_none trx.session) k.kept in
       let kept_now : ChainedFile n (g.contents new) k.after no_chains = subst (λ (m : ℕ). ChainedFile m (g.contents new) k.after no_chains) (sym pages) free in
       let none : k.after.images ≡ [] = none_chained n (g.contents new) k.after kept_now in
       record {

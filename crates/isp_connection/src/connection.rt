@@ -1,6 +1,6 @@
 //! A connection as a value, and its calls.
 
-ghost use Rattle.std.specs.Prelude.{◌≡◌, [], true, false, IfErr, IfOk, OnOk};
+ghost use Rattle.std.specs.Prelude.{◌≡◌, ◌<◌, [], true, false, IfErr, IfOk, OnOk};
 ghost use Rattle.isp_tables.specs.Calls.{Keeps, Serves};
 ghost use Rattle.isp_tables.specs.TableLists.{definitions_of};
 ghost use Rattle.isp_image.specs.Databases.{Database, HasNoMarked, tables_of};

@@ -1,4 +1,4 @@
-use Rattle.std.proofs.Common.{◌≡◌, ℕ, Bool, true, sym, ◌∙◌, ap, subst, arith}
+use Rattle.std.proofs.Common.{rules, ◌≡◌, ℕ, Bool, true, sym, ◌∙◌, ap, subst, arith}
 use Rattle.std.specs.Prelude.{Ok, nat_lt}
 use Rattle.std.proofs.lemmas.Bool.Decides.{nat_tests}
 use Rattle.isp_page.specs.State.{FileShape}
@@ -24,6 +24,12 @@ undoing-preserved g c =
           (subst (λ (b : Bool). UndidOrNot g.P.Pages new tables c.undo_newest.new.trx b some.after) some_left (e.undone tells some.after some.opened)),
       e.session ∙ c.undoing.invariant.3,
     )
+
+pub returns-in_err-undo_newest-clause-sound : goal.returns-in_err-undo_newest-clause-sound
+returns-in_err-undo_newest-clause-sound g c tells d opened =
+    let some = c.undoing.invariant.2 tells d opened in
+    let sound = c.in_err-undo_newest.ensures.sound tells some.after some.opened in
+    search (rules, sound, c.from_residual.ensures)
 
 pub returns-clause-undone : goal.returns-clause-undone
 returns-clause-undone g c tells d opened =

@@ -1,4 +1,6 @@
-use Rattle.std.proofs.Common.{rules, ◌≡◌, sym, ◌∙◌, ap, subst}
+use Rattle.std.proofs.lemmas.Result.{err_from_is_err_and}
+use Rattle.isp_page.specs.Steps.{IsNoDamageOrLacks}
+use Rattle.std.proofs.Common.{◌≡◌, sym, ◌∙◌, ap, subst}
 use Rattle.isp_exec.proofs.ReadAtLaws.{start_statement}
 use Rattle.isp_exec.specs.Starting.{place_by}
 use Rattle.isp_page.specs.State.{FileShape}
@@ -6,7 +8,7 @@ use Rattle.isp_plain.specs.declared.statement.Reply.{Reply}
 use Rattle.isp_work.specs.declared.work.Work.{Work}
 use Rattle.isp_connection.specs.Answering.{Executed}
 use Rattle.isp_connection.specs.Connections.{ConnectionState}
-use Rattle.isp_connection.proofs.EndLaws.{at_rest, executed, fit_inside, hold_inside, start_inside}
+use Rattle.isp_connection.proofs.EndLaws.{at_rest, err_sound, executed, fit_inside, hold_inside, start_inside}
 use Rattle.isp_connection.proofs.connection.Connection.execute.Goals as goal
 
 pub run-requires-clause-fit : goal.run-requires-clause-fit
@@ -17,7 +19,16 @@ pub returns-in_err-run-clause-sound : goal.returns-in_err-run-clause-sound
 returns-in_err-run-clause-sound g c tells d state h may =
     let at = start_inside g.P.Pages c.args.pages.now c.self.inside c.args.self.now c.self.view_is state d c.args.statement c.start-work.result c.start-work.ensures h may.lined in
     let sound = c.in_err-run.ensures.sound tells d at in
-    search (rules, sound, c.from_residual.ensures)
+    let p = err_from_is_err_and c.from_residual.result c.from_residual.ensures.1 in
+    err_sound IsNoDamageOrLacks c.from_residual.result c.in_err-run.field-0.0 p.0 p.1 p.2 sound
+
+pub returns-in_err-settle-clause-sound : goal.returns-in_err-settle-clause-sound
+returns-in_err-settle-clause-sound g c tells d state h may =
+    let at = start_inside g.P.Pages c.args.pages.now c.self.inside c.args.self.now c.self.view_is state d c.args.statement c.start-work.result c.start-work.ensures h may.lined in
+    let ran = c.in_ok-run.ensures.stands tells d at in
+    let sound = c.in_err-settle.ensures.sound tells c.run.new.tables ran.db ran.opened in
+    let p = err_from_is_err_and c.from_residual-in_err-settle.result c.from_residual-in_err-settle.ensures.1 in
+    err_sound IsNoDamageOrLacks c.from_residual-in_err-settle.result c.in_err-settle.field-0.0 p.0 p.1 p.2 sound
 
 pub returns-clause-executed : goal.returns-clause-executed
 returns-clause-executed g c tells d state h may =

@@ -7,6 +7,11 @@ use Rattle.isp_connection.specs.Answering.{Answered}
 use Rattle.isp_connection.proofs.EndLaws.{answered_ok, answered_on}
 use Rattle.isp_connection.proofs.connection.Connection.obey.Goals as goal
 
+pub returns-in_err-commit-in-Commit-clause-sound : goal.returns-in_err-commit-in-Commit-clause-sound
+returns-in_err-commit-in-Commit-clause-sound g c tells d state h may =
+    let sound = c.in_err-commit-in-Commit.ensures.sound tells d h.opened in
+    search (rules, sound, c.from_residual.ensures)
+
 pub returns-in_err-roll_back-in-Rollback-clause-sound : goal.returns-in_err-roll_back-in-Rollback-clause-sound
 returns-in_err-roll_back-in-Rollback-clause-sound g c tells d state h may =
     let sound = c.in_err-roll_back-in-Rollback.ensures.sound tells d state h in

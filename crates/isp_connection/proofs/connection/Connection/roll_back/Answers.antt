@@ -1,7 +1,20 @@
-use Rattle.std.proofs.Common.{ap}
+use Rattle.std.proofs.Common.{rules, ap}
 use Rattle.isp_page.specs.State.{FileShape}
 use Rattle.isp_connection.proofs.EndLaws.{comes_back, open_inside}
 use Rattle.isp_connection.proofs.connection.Connection.roll_back.Goals as goal
+
+pub returns-in_err-undo_all-clause-sound : goal.returns-in_err-undo_all-clause-sound
+returns-in_err-undo_all-clause-sound g c tells d state h =
+    let i = c.self.inside in
+    let sound = c.in_err-undo_all.ensures.sound tells d (open_inside g.P.Pages c.args.pages.now i c.args.self.now c.self.view_is d h.opened) in
+    search (rules, sound, c.from_residual.ensures)
+
+pub returns-in_err-commit-clause-sound : goal.returns-in_err-commit-clause-sound
+returns-in_err-commit-clause-sound g c tells d state h =
+    let i = c.self.inside in
+    let b = c.in_ok-undo_all.ensures.undone tells d (open_inside g.P.Pages c.args.pages.now i c.args.self.now c.self.view_is d h.opened) in
+    let sound = c.in_err-commit.ensures.sound tells b.after b.opened in
+    search (rules, sound, c.from_residual-in_err-commit.ensures)
 
 pub returns-clause-back : goal.returns-clause-back
 returns-clause-back g c tells d state h =

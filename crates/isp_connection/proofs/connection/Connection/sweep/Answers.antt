@@ -33,4 +33,4 @@ returns-clause-swept g c tells d state holds =
     let e = c.in_ok-drop_marked_rows.ensures in
     swept_tidy g.P.Pages c.args.pages.now c.drop_marked_rows.new.pages (state_of i) (record { inside = i.inside; defs = i.tables; trx = fresh }) state d c.roots.result.now c.as_slice.result.now h c.if-self.false c.roots.ensures same
     (e.swept tells) (ap (λ (s : FileShape). s.pages) e.made.keeps.same_shape) refl refl
-    (record { session_is = ap (λ (trx : TrxState). trx.session) after ∙ c.begin-fresh.ensures.session_is ∙ c.session.ensures; count = ap (λ (trx : TrxState). trx.count) after ∙ c.begin-fresh.ensures.count; keys = ap (λ (trx : TrxState). trx.keys) after ∙ c.begin-fresh.ensures.keys })
+    (record { session_is = ap (λ (trx : TrxState). trx.session) after ∙ c.begin-fresh.ensures.session_is ∙ c.session.ensures.is; count = ap (λ (trx : TrxState). trx.count) after ∙ c.begin-fresh.ensures.count; keys = ap (λ (trx : TrxState). trx.keys) after ∙ c.begin-fresh.ensures.keys })
