@@ -22,7 +22,7 @@ const RULE: u32 = 9;
 const MOST_LEVEL: u8 = 16;
 
 /// That a page isn't what a page of an R-tree has to be.
-pub(crate) fn broken(page: PageNo) -> StoreFault
+pub fn broken(page: PageNo) -> StoreFault
     ensures { result ≡ Damaged page.0 9 }
 {
     StoreFault::Damaged {
@@ -85,7 +85,11 @@ pub(crate) fn read_node<P: Pages>(
 }
 
 /// Reads the root of a tree into `into`, and answers the tree's owner.
-pub(crate) fn read_root<P: Pages>(
+///
+/// # Errors
+///
+/// Disk; or Damaged, with that page and rule 9, where it is no page of an R-tree, or stands more than 16 levels above the leaves.
+pub fn read_root<P: Pages>(
     pages: &mut P,
     root: PageNo,
     into: &mut Page,
@@ -118,7 +122,11 @@ fn is_root_of(p: &Page, pages: u32, owner: u32, own: PageNo) -> bool
 }
 
 /// Reads a page of the tree of that owner, one level below a page of that level, into `into`.
-pub(crate) fn read_below<P: Pages>(
+///
+/// # Errors
+///
+/// Disk; or Damaged, with that page and rule 9, where it is no page of an R-tree of that owner, or isn't on that level.
+pub fn read_below<P: Pages>(
     pages: &mut P,
     owner: u32,
     p: PageNo,
