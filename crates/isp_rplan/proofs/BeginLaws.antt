@@ -19,7 +19,8 @@ use Rattle.isp_laws.proofs.ListLaws.{Has-append_left, Has-map_of, times-same}
 use Rattle.isp_laws.proofs.PageLaws.{changed, page_in-each}
 use Rattle.isp_rplan.specs.declared.steps.Carry.TheVariants.{Added}
 use Rattle.isp_rplan.specs.declared.steps.PathPage.{PathPage}
-use Rattle.isp_rplan.proofs.StepLaws.{AllHave, AreUp, HasEntries, IsUp, map_same, page_numbers}
+use Rattle.isp_rplan.specs.Divisions.{HasEntries, page_numbers}
+use Rattle.isp_rplan.proofs.StepLaws.{AllHave, AreUp, IsUp, map_same}
 
 -- ---- levels along a path
 
@@ -40,41 +41,41 @@ next_level tree forest p q e n = by (page_at tree q) refl
 -- the pages behind the first lie below it
 deeper : (tree : Tree) → Forest tree → (p : ℕ) (rest : List ℕ) (x : ℕ) → IsPath tree (p ∷ rest) → 0 < times x rest → level_at tree x < level_at tree p
 deeper tree forest p [] x path h = absurd (omega (arith, h))
-deeper tree forest p (q ∷ rest) x path h = by (q == x) refl
+deeper tree forest p (q ∷ rest) x path h = by (q == x) refl (λ later. deeper tree forest q rest x path.1 later)
   where
     next : level_at tree p ≡ suc (level_at tree q)
     next = next_level tree forest p q path.0.0 path.0.1
 
-    by : (t : Bool) → (q == x) ≡ t → level_at tree x < level_at tree p
-    by true is = let same : level_at tree q ≡ level_at tree x = ap (level_at tree) (eqb-true q x is) in omega (arith, next, same)
-    by false is =
+    by : (t : Bool) → (q == x) ≡ t → (0 < times x rest → level_at tree x < level_at tree q) → level_at tree x < level_at tree p
+    by true is again = let same : level_at tree q ≡ level_at tree x = ap (level_at tree) (eqb-true q x is) in omega (arith, next, same)
+    by false is again =
         let one : ◌≡◌ {A = ℕ} (cond (q == x) 1 0) 0 = ap (λ (b : Bool). let n : ℕ = cond b 1 0 in n) is in
-        let low : level_at tree x < level_at tree q = deeper tree forest q rest x path.1 (omega (arith, h, one)) in
+        let low : level_at tree x < level_at tree q = again (omega (arith, h, one)) in
         omega (arith, next, low)
+
+tail_path : (tree : Tree) (p : ℕ) (rest : List ℕ) → IsPath tree (p ∷ rest) → IsPath tree rest
+tail_path tree p [] path = path
+tail_path tree p (q ∷ rest) path = path.1
 
 -- two pages of a path on one level are one
 level_once : (tree : Tree) → Forest tree → (path : List ℕ) (x y : ℕ) → IsPath tree path → 0 < times x path → 0 < times y path → level_at tree x ≡ level_at tree y → x ≡ y
 level_once tree forest [] x y path hx hy same = absurd (omega (arith, hx))
-level_once tree forest (p ∷ rest) x y path hx hy same = by (p == x) (p == y) refl refl
+level_once tree forest (p ∷ rest) x y path hx hy same = by (p == x) (p == y) refl refl (λ jx jy. level_once tree forest rest x y (tail_path tree p rest path) jx jy same)
   where
-    tail_path : (rest : List ℕ) → IsPath tree (p ∷ rest) → IsPath tree rest
-    tail_path [] path = path
-    tail_path (q ∷ rest) path = path.1
-
     behind : (z : ℕ) → (p == z) ≡ false → 0 < times z (p ∷ rest) → 0 < times z rest
     behind z is h = let none : ◌≡◌ {A = ℕ} (cond (p == z) 1 0) 0 = ap (λ (b : Bool). let n : ℕ = cond b 1 0 in n) is in omega (arith, h, none)
 
-    by : (s t : Bool) → (p == x) ≡ s → (p == y) ≡ t → x ≡ y
-    by true true sx sy = sym (eqb-true p x sx) ∙ eqb-true p y sy
-    by true false sx sy =
+    by : (s t : Bool) → (p == x) ≡ s → (p == y) ≡ t → (0 < times x rest → 0 < times y rest → x ≡ y) → x ≡ y
+    by true true sx sy again = sym (eqb-true p x sx) ∙ eqb-true p y sy
+    by true false sx sy again =
         let low : level_at tree y < level_at tree p = deeper tree forest p rest y path (behind y sy hy) in
         let at : level_at tree p ≡ level_at tree x = ap (level_at tree) (eqb-true p x sx) in
         absurd (omega (arith, low, at, same))
-    by false true sx sy =
+    by false true sx sy again =
         let low : level_at tree x < level_at tree p = deeper tree forest p rest x path (behind x sx hx) in
         let at : level_at tree p ≡ level_at tree y = ap (level_at tree) (eqb-true p y sy) in
         absurd (omega (arith, low, at, same))
-    by false false sx sy = level_once tree forest rest x y (tail_path rest path) (behind x sx hx) (behind y sy hy) same
+    by false false sx sy again = again (behind x sx hx) (behind y sy hy)
 
 -- a path has no page twice
 path_once : (tree : Tree) → Forest tree → (path : List ℕ) (x : ℕ) → IsPath tree path → times x path ≤ 1
@@ -84,14 +85,11 @@ path_once tree forest (p ∷ []) x path = by (p == x)
     by : (t : Bool) → cond t 1 0 + 0 ≤ 1
     by true = omega arith
     by false = omega arith
-path_once tree forest (p ∷ q ∷ rest) x path = by (p == x) refl
+path_once tree forest (p ∷ q ∷ rest) x path = by (p == x) refl (path_once tree forest (q ∷ rest) x path.1)
   where
-    later : times x (q ∷ rest) ≤ 1
-    later = path_once tree forest (q ∷ rest) x path.1
-
-    by : (t : Bool) → (p == x) ≡ t → cond (p == x) 1 0 + times x (q ∷ rest) ≤ 1
-    by false is = let none : ◌≡◌ {A = ℕ} (cond (p == x) 1 0) 0 = ap (λ (b : Bool). let n : ℕ = cond b 1 0 in n) is in omega (arith, later, none)
-    by true is = count (times x (q ∷ rest)) refl
+    by : (t : Bool) → (p == x) ≡ t → times x (q ∷ rest) ≤ 1 → cond (p == x) 1 0 + times x (q ∷ rest) ≤ 1
+    by false is later = let none : ◌≡◌ {A = ℕ} (cond (p == x) 1 0) 0 = ap (λ (b : Bool). let n : ℕ = cond b 1 0 in n) is in omega (arith, later, none)
+    by true is later = count (times x (q ∷ rest)) refl
       where
         one : ◌≡◌ {A = ℕ} (cond (p == x) 1 0) 1
         one = ap (λ (b : Bool). let n : ℕ = cond b 1 0 in n) is
@@ -105,19 +103,19 @@ path_once tree forest (p ∷ q ∷ rest) x path = by (p == x) refl
 
 among_times : (path : List ℕ) (x : ℕ) → is_among path x ≡ true → 0 < times x path
 among_times [] x h = cc
-among_times (p ∷ rest) x h = by (p == x) refl h
+among_times (p ∷ rest) x h = by (p == x) refl h (among_times rest x)
   where
-    by : (t : Bool) → (p == x) ≡ t → (t || is_among rest x) ≡ true → 0 < times x (p ∷ rest)
-    by true is h' = let one : ◌≡◌ {A = ℕ} (cond (p == x) 1 0) 1 = ap (λ (b : Bool). let n : ℕ = cond b 1 0 in n) is in omega (arith, one)
-    by false is h' = let later = among_times rest x h' in omega (arith, later)
+    by : (t : Bool) → (p == x) ≡ t → (t || is_among rest x) ≡ true → (is_among rest x ≡ true → 0 < times x rest) → 0 < times x (p ∷ rest)
+    by true is h' again = let one : ◌≡◌ {A = ℕ} (cond (p == x) 1 0) 1 = ap (λ (b : Bool). let n : ℕ = cond b 1 0 in n) is in omega (arith, one)
+    by false is h' again = let later = again h' in omega (arith, later)
 
 times_among : (path : List ℕ) (x : ℕ) → 0 < times x path → is_among path x ≡ true
 times_among [] x h = absurd (omega (arith, h))
-times_among (p ∷ rest) x h = by (p == x) refl
+times_among (p ∷ rest) x h = by (p == x) refl (times_among rest x)
   where
-    by : (t : Bool) → (p == x) ≡ t → (t || is_among rest x) ≡ true
-    by true is = refl
-    by false is = let none : ◌≡◌ {A = ℕ} (cond (p == x) 1 0) 0 = ap (λ (b : Bool). let n : ℕ = cond b 1 0 in n) is in times_among rest x (omega (arith, h, none))
+    by : (t : Bool) → (p == x) ≡ t → (0 < times x rest → is_among rest x ≡ true) → (t || is_among rest x) ≡ true
+    by true is again = refl
+    by false is again = let none : ◌≡◌ {A = ℕ} (cond (p == x) 1 0) 0 = ap (λ (b : Bool). let n : ℕ = cond b 1 0 in n) is in again (omega (arith, h, none))
 
 -- ---- the tree with the new entry
 
@@ -129,7 +127,7 @@ module _ (tree : Tree) (forest : Forest tree) (path : List ℕ) (stands : Stands
   grown_at : (q : ℕ) (page : Node) → page_at tree q ≡ Some page → page_at grown_tree q ≡ Some (added_to path b key number q page)
   grown_at q page there = page_in-each (added_to path b key number) tree.pages q ∙ ap (changed (added_to path b key number) q) there
 
-  grown_free : (q : ℕ) → page_at tree q ≡ None → page_at grown_tree q ≡ None
+  pub grown_free : (q : ℕ) → page_at tree q ≡ None → page_at grown_tree q ≡ None
   grown_free q free = page_in-each (added_to path b key number) tree.pages q ∙ ap (changed (added_to path b key number) q) free
 
   names_grown : (p q : ℕ) (e : Entry) → Names tree p q e → (d : Entry) × Names grown_tree p q d

@@ -3,6 +3,7 @@ use Rattle.std.proofs.Common.{◌≡◌, inl, inr, ℕ, zero, suc, ◌+◌, ◌*
 use Rattle.std.specs.Prelude.{filter_map, slice_get}
 use Rattle.std.specs.List.{cons_option}
 use Rattle.std.specs.Option.{option_map}
+use Rattle.std.proofs.lemmas.Int.{clamps}
 use Rattle.std.proofs.lemmas.List.{length-map}
 use Rattle.std.proofs.lemmas.Option.{slice_get-map}
 use Rattle.std.proofs.Math.Nat.{mul-div-le}
@@ -47,8 +48,8 @@ picked_known to es (k ∷ places) =
 
 -- an entry that leads somewhere stays
 stays_known : (to : To) (e : Entry) (b : Bool) → names (λ q. q == 0) (child_of e) ≡ b → b ≡ false → known to e ≡ e
-stays_known to e true is no = cc
-stays_known to e false is no = ap (λ (t : Bool). record { b = e.b; to = cond t to e.to }) is
+stays_known to e true is off = cc
+stays_known to e false is off = ap (λ (t : Bool). record { b = e.b; to = cond t to e.to }) is
 
 all_known : (to : To) (es : List Entry) → ((e : Entry) → Has es e → names (λ q. q == 0) (child_of e) ≡ false) → map (known to) es ≡ es
 all_known to [] none = refl

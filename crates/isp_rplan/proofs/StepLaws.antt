@@ -20,16 +20,12 @@ use Rattle.isp_laws.proofs.ForestLaws.{not_free, one_parent, same_page}
 use Rattle.isp_laws.proofs.ListLaws.{Has-append_left, Has-map_of}
 use Rattle.isp_laws.proofs.PageLaws.{changed, page_in-each}
 use Rattle.isp_laws.proofs.SplitLaws.{Splitting, after_split, at_n, at_o, at_old, at_other, counter_grows, gone, kept, round, split_is, split_keeps}
+use Rattle.isp_rplan.specs.Divisions.{HasEntries, page_numbers}
 use Rattle.isp_rplan.specs.Plans.{AreDivided, AreParted, AreWhole, known, moves_of, with_carry, with_known}
 use Rattle.isp_rplan.specs.declared.steps.Carry.{Carry}
 use Rattle.isp_rplan.specs.declared.steps.Carry.TheVariants.{Divided, Grown}
 use Rattle.isp_rplan.specs.declared.steps.PathPage.{PathPage}
 use Rattle.isp_rplan.proofs.KnownLaws.{carry_known, divided_known, least_known, parts_of}
-
--- the numbers of the pages
-abbrev pub page_numbers : List PathPage → List ℕ
-page_numbers [] = []
-page_numbers (p ∷ pages) = p.page.0 ∷ page_numbers pages
 
 -- each page is named by the next, and the last is the root
 abbrev pub IsUp : Tree → List ℕ → Type 0
@@ -37,13 +33,7 @@ IsUp tree [] = ⊥
 IsUp tree (o ∷ []) = o ≡ tree.root
 IsUp tree (o ∷ above ∷ up) = ((e : Entry) × Names tree above o e) × IsUp tree (above ∷ up)
 
--- the page of the tree has these entries
-pub record HasEntries (tree : Tree) (q : ℕ) (entries : List Entry) : Type 0 where
-  pub node : Node
-  pub there : page_at tree q ≡ Some node
-  pub entries_are : node.entries ≡ entries
-
--- so do all of these pages, each with the entry for the page below it grown round the box
+-- the pages have their entries, each with the entry for the page below it grown round the box
 abbrev pub AllHave : Tree → Corners → PageNo → List PathPage → Type 0
 AllHave tree b below [] = Unit {0}
 AllHave tree b below (p ∷ pages) = HasEntries tree p.page.0 (map (widened (below.0 ∷ []) b) p.entries.items) × AllHave tree b p.page pages
@@ -167,13 +157,13 @@ split_free tree forest o above n left right can x not_n free =
     there_other true is = let at : o ≡ x = eqb-true o x is in let there : page_at tree x ≡ Some can.page = subst (λ (z : ℕ). page_at tree z ≡ Some can.page) at can.there in absurd (let no : ◌≡◌ {A = Option Node} None (Some can.page) = sym free ∙ there in cc)
 
 -- the entries of a page that isn't the one above don't name the divided one, so they stay
-map_same : (f : Entry → Entry) (es : List Entry) → ((e : Entry) → Has es e → f e ≡ e) → map f es ≡ es
+pub map_same : (f : Entry → Entry) (es : List Entry) → ((e : Entry) → Has es e → f e ≡ e) → map f es ≡ es
 map_same f [] h = refl
 map_same f (e ∷ es) h = ap (λ x. x ∷ map f es) (h e (inl refl)) ∙ ap (λ xs. e ∷ xs) (map_same f es (λ d k. h d (inr k)))
 
 reboxed_other : (o : ℕ) (b : Corners) (e : Entry) (t : Bool) → names (λ q. q == o) (child_of e) ≡ t → t ≡ false → reboxed o b e ≡ e
-reboxed_other o b e true is no = cc
-reboxed_other o b e false is no = ap (λ (t : Bool). record { b = cond t b e.b; to = e.to }) is
+reboxed_other o b e true is off = cc
+reboxed_other o b e false is off = ap (λ (t : Bool). record { b = cond t b e.b; to = e.to }) is
 
 names_no_o : (tree : Tree) → Forest tree → (o above p : ℕ) (page : Node) (named : (e : Entry) × Names tree above o e) → page_at tree p ≡ Some page → (above == p) ≡ false → (e : Entry) → Has page.entries e → (m : Option ℕ) → child_of e ≡ m → names (λ q. q == o) m ≡ false
 names_no_o tree forest o above p page named there other e has None to = refl
