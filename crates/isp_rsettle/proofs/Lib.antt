@@ -1,0 +1,2 @@
+mod NeedLaws
+mod WayLaws
