@@ -52,5 +52,5 @@ needed_is (root ∷ steps) =
 -- all steps are counted
 pub counted_all : (steps : List Planned) (i count : ℕ) → length steps ≤ i → count + all_needs (drop i steps) ≡ root_needs steps + all_needs steps → count ≡ pages_needed (reverse steps)
 counted_all steps i count all is =
-    let none : all_needs (drop i steps) ≡ 0 = ap all_needs (drop_all steps i all) in
+    let none : all_needs (drop i steps) ≡ 0 = ap all_needs (drop_all i steps all) in
     omega (arith, is, none, needed_is steps)
