@@ -1,20 +1,18 @@
 -- Where a plan begins: in the tree with the new entry on its leaf and the boxes on the way grown, the pages of the path stand as
 -- the plan takes them, from the leaf up.
-use Rattle.std.proofs.Common.{◌≡◌, inl, inr, ℕ, zero, suc, ◌+◌, ◌<◌, ◌≤◌, ◌==◌, ◌||◌, Bool, true, false, cond, Option, Some, None, List, [], ◌∷◌, ◌++◌, length, map, reverse, refl, sym, ◌∙◌, ap, subst, arith, eqb-true, eq-eqb, ℤ}
-use Rattle.std.specs.Prelude.{is_none}
+use Rattle.std.proofs.Common.{◌≡◌, inl, inr, ℕ, zero, suc, ◌+◌, ◌<◌, ◌≤◌, ◌==◌, ◌||◌, Bool, true, false, cond, Option, Some, None, List, [], ◌∷◌, ◌++◌, map, reverse, refl, sym, ◌∙◌, ap, subst, arith, eqb-true, eq-eqb, ℤ}
 use Rattle.std.proofs.lemmas.List.{append-nil, append_assoc, reverse-append}
 use Rattle.isp_base.specs.Lists.{Has, times}
-use Rattle.isp_base.specs.declared.page_no.PageNo.{PageNo}
 use Rattle.isp_mbr.specs.Boxes.{union}
 use Rattle.isp_mbr.specs.Corners.{Corners}
 use Rattle.isp_forest.specs.declared.entry.Entry.{Entry}
 use Rattle.isp_forest.specs.declared.entry.To.TheVariants.{Row}
-use Rattle.isp_forest.specs.Forest.{Forest, IsBelow, IsPage}
-use Rattle.isp_forest.specs.Place.{EndsOnLeaf, IsPath, Names, Stands}
+use Rattle.isp_forest.specs.Forest.{Forest, IsBelow}
+use Rattle.isp_forest.specs.Place.{IsPath, Names, Stands}
 use Rattle.isp_forest.specs.Steps.{add, added_to, is_among, is_last, names, widened}
 use Rattle.isp_forest.specs.Tree.{Node, Tree, child_of, page_at}
 use Rattle.isp_laws.proofs.AddLaws.{last_is_leaf}
-use Rattle.isp_laws.proofs.ForestLaws.{child_there, not_free, same_page}
+use Rattle.isp_laws.proofs.ForestLaws.{not_free}
 use Rattle.isp_laws.proofs.ListLaws.{Has-append_left, Has-map_of, times-same}
 use Rattle.isp_laws.proofs.PageLaws.{changed, page_in-each}
 use Rattle.isp_rplan.specs.declared.steps.Carry.TheVariants.{Added}
@@ -120,7 +118,6 @@ times_among (p ∷ rest) x h = by (p == x) refl (times_among rest x)
 -- ---- the tree with the new entry
 
 module _ (tree : Tree) (forest : Forest tree) (path : List ℕ) (stands : Stands tree path) (b : Corners) (key : ℤ) (number : ℕ) where
-
   abbrev pub grown_tree : Tree
   grown_tree = add tree path b key number
 
@@ -131,13 +128,15 @@ module _ (tree : Tree) (forest : Forest tree) (path : List ℕ) (stands : Stands
   grown_free q free = page_in-each (added_to path b key number) tree.pages q ∙ ap (changed (added_to path b key number) q) free
 
   names_grown : (p q : ℕ) (e : Entry) → Names tree p q e → (d : Entry) × Names grown_tree p q d
-  names_grown p q e n =
-      (widened path b e, record {
-        page = added_to path b key number p n.page;
-        there = grown_at p n.page n.there;
-        has = Has-append_left (map (widened path b) n.page.entries) _ (widened path b e) (Has-map_of (widened path b) n.page.entries e n.has);
-        to = n.to;
-      })
+  names_grown p q e n = (
+    widened path b e,
+    record {
+      page = added_to path b key number p n.page;
+      there = grown_at p n.page n.there;
+      has = Has-append_left (map (widened path b) n.page.entries) _ (widened path b e) (Has-map_of (widened path b) n.page.entries e n.has);
+      to = n.to;
+    },
+  )
 
   widened_by : (s t : Bool) (e : Entry) → s ≡ t → ◌≡◌ {A = Entry} (record { b = cond s (union e.b b) e.b; to = e.to }) (record { b = cond t (union e.b b) e.b; to = e.to })
   widened_by s t e same = ap (λ (u : Bool). record { b = cond u (union e.b b) e.b; to = e.to }) same
@@ -164,12 +163,12 @@ module _ (tree : Tree) (forest : Forest tree) (path : List ℕ) (stands : Stands
   -- a page of the path that isn't the last
   inner_has : (p q : PathPage) (e : Entry) → Names tree p.page.0 q.page.0 e → 0 < times q.page.0 path → HasEntries tree p.page.0 p.entries.items → HasEntries grown_tree p.page.0 (map (widened (q.page.0 ∷ []) b) p.entries.items)
   inner_has p q e n on h = record {
-      node = added_to path b key number p.page.0 h.node;
-      there = grown_at p.page.0 h.node h.there;
-      entries_are = not_last (is_last path p.page.0) refl
-          ∙ map_by (widened path b) (widened (q.page.0 ∷ []) b) h.node.entries (λ d has. widened_by (names (is_among path) (child_of d)) (names (is_among (q.page.0 ∷ [])) (child_of d)) d (one_grows p.page.0 q.page.0 e n stands.steps on d h.node h.there has (child_of d) refl))
-          ∙ ap (map (widened (q.page.0 ∷ []) b)) h.entries_are;
-    }
+    node = added_to path b key number p.page.0 h.node;
+    there = grown_at p.page.0 h.node h.there;
+    entries_are = not_last (is_last path p.page.0) refl
+        ∙ map_by (widened path b) (widened (q.page.0 ∷ []) b) h.node.entries (λ d has. widened_by (names (is_among path) (child_of d)) (names (is_among (q.page.0 ∷ [])) (child_of d)) d (one_grows p.page.0 q.page.0 e n stands.steps on d h.node h.there has (child_of d) refl))
+        ∙ ap (map (widened (q.page.0 ∷ []) b)) h.entries_are;
+  }
     where
       row : Entry
       row = record { b = b; to = Row key number }
@@ -184,11 +183,11 @@ module _ (tree : Tree) (forest : Forest tree) (path : List ℕ) (stands : Stands
   -- the last one
   leaf_has : (p : PathPage) → is_last path p.page.0 ≡ true → HasEntries tree p.page.0 p.entries.items → HasEntries grown_tree p.page.0 (p.entries.items ++ (record { b = b; to = Row key number }) ∷ [])
   leaf_has p last h = record {
-      node = added_to path b key number p.page.0 h.node;
-      there = grown_at p.page.0 h.node h.there;
-      entries_are = ap (λ (u : Bool). map (widened path b) h.node.entries ++ cond u ((record { b = b; to = Row key number }) ∷ []) []) last
-          ∙ ap (λ (es : List Entry). es ++ (record { b = b; to = Row key number }) ∷ []) (map_same (widened path b) h.node.entries (λ e has. rows e has (child_of e) refl) ∙ h.entries_are);
-    }
+    node = added_to path b key number p.page.0 h.node;
+    there = grown_at p.page.0 h.node h.there;
+    entries_are = ap (λ (u : Bool). map (widened path b) h.node.entries ++ cond u ((record { b = b; to = Row key number }) ∷ []) []) last
+        ∙ ap (λ (es : List Entry). es ++ (record { b = b; to = Row key number }) ∷ []) (map_same (widened path b) h.node.entries (λ e has. rows e has (child_of e) refl) ∙ h.entries_are);
+  }
     where
       rows : (e : Entry) → Has h.node.entries e → (m : Option ℕ) → child_of e ≡ m → widened path b e ≡ e
       rows e has None to = widened_by (names (is_among path) (child_of e)) false e (ap (names (is_among path)) to)
@@ -229,14 +228,18 @@ record Down (tree : Tree) (forest : Forest tree) (path : List ℕ) (b : Corners)
 down : (tree : Tree) (forest : Forest tree) (path : List ℕ) (stands : Stands tree path) (b : Corners) (key : ℤ) (number : ℕ) → page_at tree 0 ≡ None
     → (p : PathPage) (rest done : List PathPage) → Down tree forest path b key number p rest done
     → (leaf : PathPage) × (above : List PathPage) × (onto (p ∷ rest) done ≡ leaf ∷ above) × AreUp (add tree path b key number) b (Added b) (Row key number) leaf above
-down tree forest path stands b key number none p [] done d =
-    (p, done, refl, record {
-      up = d.up;
-      hand = leaf_has tree forest path stands b key number p (d.ends p.page.0 ∙ eq-eqb p.page.0 p.page.0 refl) (d.has p (inl refl));
-      others = d.passed;
-      once = λ q. (let h = d.counted q in let k = path_once tree forest path q stands.steps in omega (arith, h, k));
-      none = grown_free tree forest path stands b key number 0 none;
-    })
+down tree forest path stands b key number none p [] done d = (
+  p,
+  done,
+  refl,
+  record {
+    up = d.up;
+    hand = leaf_has tree forest path stands b key number p (d.ends p.page.0 ∙ eq-eqb p.page.0 p.page.0 refl) (d.has p (inl refl));
+    others = d.passed;
+    once = λ q. (let h = d.counted q in let k = path_once tree forest path q stands.steps in omega (arith, h, k));
+    none = grown_free tree forest path stands b key number 0 none;
+  },
+)
 down tree forest path stands b key number none p (q ∷ rest) done d =
     let here : times q.page.0 (q.page.0 ∷ page_numbers rest) ≡ suc (times q.page.0 (page_numbers rest)) = times-same q.page.0 (page_numbers rest) in
     let on : 0 < times q.page.0 path = let h = d.counted q.page.0 in omega (arith, h, here) in

@@ -1,6 +1,6 @@
 -- Exactly the pages that overflow are divided, and each of these divisions may be made: the plan is carried out on the tree from
 -- the page at hand up.
-use Rattle.std.proofs.Common.{◌≡◌, inl, inr, ℕ, zero, suc, ◌+◌, ◌<◌, ◌≤◌, ◌==◌, Bool, true, false, cond, Option, Some, None, List, [], ◌∷◌, ◌++◌, length, map, reverse, refl, sym, ◌∙◌, ap, subst, arith, eqb-true, eq-eqb, ℤ, ◌⊎◌}
+use Rattle.std.proofs.Common.{◌≡◌, inl, inr, ℕ, ◌+◌, ◌<◌, ◌≤◌, ◌==◌, Bool, true, false, cond, Option, Some, None, List, [], ◌∷◌, ◌++◌, length, map, reverse, refl, sym, ◌∙◌, ap, subst, arith, eq-eqb, ℤ, ◌⊎◌}
 use Rattle.std.proofs.lemmas.List.{length-map, reverse-append}
 use Rattle.isp_base.specs.Lists.{Has, times}
 use Rattle.isp_base.specs.declared.page_no.PageNo.{PageNo}
@@ -12,7 +12,7 @@ use Rattle.isp_forest.specs.declared.entry.To.TheVariants.{Child, Row}
 use Rattle.isp_forest.specs.Forest.{Forest}
 use Rattle.isp_forest.specs.Place.{CanRelieve, CanSplit, Division, IsFree}
 use Rattle.isp_forest.specs.Steps.{add, raise, widened}
-use Rattle.isp_forest.specs.Tree.{Node, Tree, least, page_at}
+use Rattle.isp_forest.specs.Tree.{Tree, least, page_at}
 use Rattle.isp_laws.proofs.AddLaws.{add_keeps}
 use Rattle.isp_laws.proofs.ListLaws.{Has-append}
 use Rattle.isp_laws.proofs.SplitLaws.{split_keeps}
@@ -139,15 +139,15 @@ divided_due fanout fan b tree forest carry to page next pages s t steps n news m
     let can : CanSplit tree o above left right n.0 = can_split tree forest fanout fan b carry to page next pages stays moves n.0 u d free in
     let carry_is : carry_of b s ≡ Divided page.page (least stays) (least moves) = ap (carry_up b s.page stays) is ∙ ap (λ (p : PageNo). Divided p (least stays) (least moves)) plan.0.page_is in
     let rest = again (split_at tree page next to stays moves n.0)
-        (split_keeps tree o above left right n.0 forest can)
-        (Divided page.page (least stays) (least moves)) (Child n) news
-        (divided_up tree forest fanout fan b carry to page next pages stays moves n u d free some)
-        (subst (λ (c : Carry). IsPlan fanout b (next ∷ pages) c (t ∷ steps)) carry_is plan.1)
-        (record {
-          free = λ x h. split_free tree forest o above n.0 left right can x.0 (others_differ tree n news new x h) (new.free x (inr h));
-          once = λ q. fewer_new q n.0 (map number_of news) (new.once q);
-        })
-        enough in
+    (split_keeps tree o above left right n.0 forest can)
+    (Divided page.page (least stays) (least moves)) (Child n) news
+    (divided_up tree forest fanout fan b carry to page next pages stays moves n u d free some)
+    (subst (λ (c : Carry). IsPlan fanout b (next ∷ pages) c (t ∷ steps)) carry_is plan.1)
+    (record {
+      free = λ x h. split_free tree forest o above n.0 left right can x.0 (others_differ tree n news new x h) (new.free x (inr h));
+      once = λ q. fewer_new q n.0 (map number_of news) (new.once q);
+    })
+    enough in
     ((can, rest.can), (divides_it fanout tree forest b carry to page (next ∷ pages) stays moves n.0 u d, rest.all))
 
 inner_due : (fanout : ℕ) → IsFanout fanout → (b : Corners) (tree : Tree) → Forest tree → (carry : Carry) (to : To) (page next : PathPage) (pages : List PathPage) (s t : Planned) (steps : List Planned) (news : List PageNo) (m : Option (List Entry))
@@ -179,7 +179,7 @@ root_due fanout fan b tree forest carry to page s (q ∷ n ∷ news) (Some moves
     let d : AreDivided fanout all stays moves = subst (λ (m : Option (List Entry)). AreParted fanout all stays m) is plan.0.parts in
     let free_q : IsFree tree q.0 = new.free q (inl refl) in
     let can : CanSplit (raise tree q.0) q.0 tree.root (map (known to) stays) (map (known to) moves) n.0 =
-        can_divide tree forest fanout fan b carry to page stays moves q.0 n.0 u d free_q (new.free n (inr (inl refl))) (others_differ tree q (n ∷ news) new n (inl refl)) in
+    can_divide tree forest fanout fan b carry to page stays moves q.0 n.0 u d free_q (new.free n (inr (inl refl))) (others_differ tree q (n ∷ news) new n (inl refl)) in
     let here : CanSplit (raise tree q.0) q.0 page.page.0 (map (known to) stays) (map (known to) moves) n.0 = subst (λ (o : ℕ). CanSplit (raise tree q.0) q.0 o (map (known to) stays) (map (known to) moves) n.0) (sym u.up) can in
     let due : IsDueAtRoot fanout tree page.page.0 q.0 to s (q ∷ n ∷ news) (Some moves) = ((free_q, here, refl), (divides_it fanout tree forest b carry to page [] stays moves n.0 u d, refl)) in
     let whole : IsDueAtRoot fanout tree page.page.0 q.0 to s (q ∷ n ∷ news) (moves_of s) = subst (λ (m : Option (List Entry)). IsDueAtRoot fanout tree page.page.0 q.0 to s (q ∷ n ∷ news) m) (sym is) due in
@@ -225,9 +225,9 @@ plan_divides fanout tree pages b key number steps news c =
     let grown : Tree = add tree path b key number in
     let begun : BeginsUp tree path pages b key number = begins_up tree c.forest pages b key number c.stands c.none c.has in
     let due : AreDue fanout grown (page_numbers (begun.leaf ∷ begun.above)) (Row key number) steps news = plan_due fanout c.fan b begun.leaf begun.above steps
-        (λ p h. c.few p (Has-reverse pages p (subst (λ (l : List PathPage). Has l p) (sym begun.is) (inr h))))
-        grown (add_keeps tree path b key number c.forest c.stands c.box) (Added b) (Row key number) news begun.are_up
-        (subst (λ (l : List PathPage). IsPlan fanout b l (Added b) steps) begun.is c.plan)
-        (record { free = λ n h. grown_free tree c.forest path c.stands b key number n.0 (c.new.free n h); once = c.new.once })
-        c.enough in
+    (λ p h. c.few p (Has-reverse pages p (subst (λ (l : List PathPage). Has l p) (sym begun.is) (inr h))))
+    grown (add_keeps tree path b key number c.forest c.stands c.box) (Added b) (Row key number) news begun.are_up
+    (subst (λ (l : List PathPage). IsPlan fanout b l (Added b) steps) begun.is c.plan)
+    (record { free = λ n h. grown_free tree c.forest path c.stands b key number n.0 (c.new.free n h); once = c.new.once })
+    c.enough in
     subst (λ (up : List ℕ). AreDue fanout grown up (Row key number) steps news) (ap page_numbers (sym begun.is) ∙ numbers_reverse pages) due

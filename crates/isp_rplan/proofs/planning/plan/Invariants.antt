@@ -1,4 +1,4 @@
-use Rattle.std.proofs.Common.{◌≡◌, length, reverse}
+use Rattle.std.proofs.Common.{length, reverse}
 use Rattle.isp_rplan.specs.declared.steps.Carry.TheVariants.{Added}
 use Rattle.isp_rplan.proofs.BoxLaws.{PlansWith}
 use Rattle.isp_rplan.proofs.planning.plan.Given as goal
