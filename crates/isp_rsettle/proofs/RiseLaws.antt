@@ -122,9 +122,6 @@ module _ (tree : Tree) (forest : Forest tree) (o above n : ℕ) (left right : Li
   abbrev parted_tree : Tree
   parted_tree = split tree o above left right n
 
-  c : Splitting
-  c = splitting tree forest o above n left right can
-
   pub split_root : parted_tree.root ≡ tree.root
   split_root = ap (λ (t : Tree). t.root) (split_is (splitting tree forest o above n left right can))
 
@@ -260,13 +257,6 @@ link_some : (n : ℕ) → (n == 0) ≡ false → link_of n ≡ Some n
 link_some zero some = absurd (let bad : true ≡ false = some in cc)
 link_some (suc n) some = refl
 
--- the header of the page at hand
-hand_head : (fanout : ℕ) (b : Corners) (tree : Tree) (carry : Carry) (to : To) (page : PathPage) (pages : List PathPage) (steps : List Planned) (news : List PageNo)
-    → (c : CanRise fanout b tree carry to page pages steps news) → (h : HasHead tree page) × (h.node ≡ c.up.hand.node)
-hand_head fanout b tree carry to page pages steps news c =
-    let h : HasHead tree page = c.heads page (inl refl) in
-    (h, same_page (page_at tree page.page.0) h.node c.up.hand.node h.there c.up.hand.there)
-
 -- the page at hand, which isn't the root, with other entries
 hand_node : (fanout : ℕ) (b : Corners) (tree : Tree) (carry : Carry) (to : To) (page next : PathPage) (pages : List PathPage) (steps : List Planned) (news : List PageNo)
     → (c : CanRise fanout b tree carry to page (next ∷ pages) steps news) → (s : Planned) → s.head ≡ page.head → (entries all : List Entry) → entries ≡ all → node_with s.head entries ≡ record c.up.hand.node { entries = all }
@@ -339,7 +329,6 @@ root_up tree (o ∷ above ∷ up) is = let later = root_up tree (above ∷ up) i
 heads_still : (tree : Tree) (forest : Forest tree) (o above n : ℕ) (left right : List Entry) (can : CanSplit tree o above left right n) (pages : List PathPage) → ((q : ℕ) → times q (o ∷ page_numbers pages) ≤ 1)
     → (p : PathPage) → Has pages p → HasHead tree p → HasHead (split tree o above left right n) p
 heads_still tree forest o above n left right can pages once p has h =
-    let c = splitting tree forest o above n left right can in
     let same_root : (split tree o above left right n).root ≡ tree.root = split_root tree forest o above n left right can in
     record {
       node = round (splitting tree forest o above n left right can) p.page.0 h.node;

@@ -215,7 +215,7 @@ fn settle_root(
             parted.push_reserved(two);
             writes.push_reserved(Settled {
                 page: raised,
-                head: left_head(head, at.counter, new),
+                head: left_head(old, at.counter, new),
                 entries: stays,
             });
             writes.push_reserved(Settled {
