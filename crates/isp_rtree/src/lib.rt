@@ -20,7 +20,7 @@ mod visiting;
 pub use growing::{Growth, growths};
 pub use isp_forest::{Entry, Seen, To};
 pub use making::create;
-pub use nodes::{read_below, read_root};
+pub use nodes::{broken, read_below, read_root};
 pub use paths::path_stands;
 pub use removing::{has_number, remove};
 pub use visiting::{choose, visit};

@@ -20,7 +20,7 @@ use isp_rnode::{To, entry, entry_count, is_node};
 const MOST_LEVEL: u8 = 16;
 
 /// That a page isn't what a page of an R-tree has to be.
-pub(crate) fn broken(page: PageNo) -> StoreFault
+pub fn broken(page: PageNo) -> StoreFault
     ensures { result ≡ Damaged page.0 rtree_rule }
 {
     StoreFault::Damaged {
