@@ -1,5 +1,6 @@
 pub mod PlaceLaws
 pub mod RunLaws
+pub mod SlotLaws
 pub mod WorkLaws
 pub mod StartLaws
 pub mod CommandLaws

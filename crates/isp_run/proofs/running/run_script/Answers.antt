@@ -2,6 +2,9 @@ use Rattle.isp_script.proofs.LimitLaws.{script_is_alone}
 use Rattle.isp_run.proofs.RunLaws.{front_of}
 use Rattle.isp_run.proofs.running.run_script.Goals as goal
 
+pub run_on-requires-clause-slots : goal.run_on-requires-clause-slots
+run_on-requires-clause-slots g c = rw c.in-Ok-Script.field-0-is at c.in-Ok-Script.ensures.slots
+
 pub returns-in-Ok-Script-clause-serial : goal.returns-in-Ok-Script-clause-serial
 returns-in-Ok-Script-clause-serial g c = λ source world done first is_kept.
     let is = rw c.in-Ok-Script.field-0-is at c.in-Ok-Script.ensures.found source in
