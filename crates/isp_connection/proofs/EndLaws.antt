@@ -413,4 +413,3 @@ all_undone g now defs trx d some none =
       back = sym (ap (λ (l : List FileImage). after_changes (tables_of some.after) (map back_of l)) images) ∙ some.same;
       reaches = some.reaches;
     }
-

@@ -9,7 +9,6 @@ use Rattle.isp_changes.specs.StageLaws.{IsBegun}
 use Rattle.isp_changes.specs.Stages.{IsOnTheWay, Stage, begun, is_insert, outcome_of}
 use Rattle.isp_changes.proofs.StageProofs.{steps_begin}
 use Rattle.isp_file_laws.proofs.KeptLaws.{kept_is_plain, own_key, shown_are_rows, table_keyed, table_rises}
-
 use Rattle.isp_image.specs.Databases.{Database, FileImage, shown, table_of, tables_of}
 use Rattle.isp_chained.proofs.CourseLaws.{reaches_self}
 use Rattle.isp_page.specs.declared.pages.Pages.{Ghosts}
