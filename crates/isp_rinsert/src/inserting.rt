@@ -1,5 +1,5 @@
 //! An entry is put into a tree.
-ghost use Rattle.std.specs.Prelude.{◌≡◌, ◌<◌, ℕ, length, true, IfErr, IfOk};
+ghost use Rattle.std.specs.Prelude.{◌≡◌, ◌<◌, ℕ, List, length, true, IfErr, IfOk};
 ghost use Rattle.isp_mbr.specs.Corners.{Corners};
 ghost use Rattle.isp_page.specs.Steps.{IsNoDamage, IsNoDamageOrLacks};
 ghost use Rattle.isp_space.specs.Changes.{MayChange};

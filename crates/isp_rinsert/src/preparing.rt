@@ -1,5 +1,5 @@
 //! An insert is planned.
-ghost use Rattle.std.specs.Prelude.{◌≡◌, ◌<◌, ◌≤◌, ℕ, length, reverse, true, IfErr, IfOk, IsTrue, ◌↔◌};
+ghost use Rattle.std.specs.Prelude.{◌≡◌, ◌<◌, ◌≤◌, ℕ, List, length, reverse, true, IfErr, IfOk};
 ghost use Rattle.isp_format.specs.Control.{IsFanout};
 ghost use Rattle.isp_mbr.specs.Corners.{Corners};
 ghost use Rattle.isp_page.specs.Steps.{IsNoDamageOrLacks};
