@@ -1,7 +1,8 @@
 -- Pages that are taken one after another, and pages that are written.
-use Rattle.std.specs.Prelude.{◌≡◌, ℕ, ◌+◌, ◌<◌, ◌≤◌, ◌==◌, true, is_none, List, [], ◌∷◌, Result, length, map, IfErr, OnOk}
+use Rattle.std.specs.Prelude.{◌≡◌, ℕ, ◌+◌, ◌<◌, ◌≤◌, ◌==◌, true, is_none, List, [], ◌∷◌, ◌++◌, Result, length, map, IfErr, OnOk}
 use Rattle.isp_base.specs.Lists.{Has, times}
 use Rattle.isp_base.specs.declared.page_no.PageNo.{PageNo}
+use Rattle.isp_format.specs.Empty.{first_fresh}
 use Rattle.isp_format.specs.Ranges.{Contents, page_of}
 use Rattle.isp_page.specs.Calls.{Continues}
 use Rattle.isp_page.specs.State.{most_changed}
@@ -10,6 +11,7 @@ use Rattle.isp_page.specs.declared.fault.StoreFault.{StoreFault}
 use Rattle.isp_page.specs.declared.pages.Pages.{Ghosts}
 use Rattle.isp_space.specs.Changes.{ChangesOf}
 use Rattle.isp_space.specs.Spaces.{NamesSpace, Space}
+use Rattle.isp_growth.specs.Growing.{IsSpaceBeside}
 use Rattle.isp_growing.specs.Taking.{taken_times, takes}
 use Rattle.isp_forest.specs.declared.entry.Entry.{Entry}
 use Rattle.isp_forest.specs.Tree.{Node, child_of}
@@ -30,10 +32,13 @@ pub record TakesPages {S T : Type 0} (g : Ghosts S) (news : List PageNo) (old ne
   pub inside : OnOk result ((p : PageNo) → Has news p → p.0 < (g.shape old).pages)
   pub names : IfErr result NamesSpace
 
--- they are so many pages that were free next, one after another
-pub record AreTaken {S : Type 0} (g : Ghosts S) (count : ℕ) (s : Space) (news : List PageNo) (new : S) : Type 0 where
+-- they are so many pages that were free next, one after another, and beside a tree with them lies the rest of the space
+pub record AreTaken {S : Type 0} (g : Ghosts S) (count : ℕ) (s : Space) (news : List PageNo) (old new : S) : Type 0 where
   pub are : numbers_of news ≡ takes count s
   pub is_space : HasSpace g new (taken_times count s)
+  pub from : (p : PageNo) → Has news p → first_fresh ≤ p.0
+  pub beside : (all : List ℕ) → IsSpaceBeside (g.shape old).pages (g.contents old) all s
+      → IsSpaceBeside (g.shape new).pages (g.contents new) (all ++ numbers_of news) (taken_times count s)
 
 -- ---- pages that are written
 
@@ -43,10 +48,14 @@ settled_number w = w.page.0
 abbrev pub written_numbers : List Settled → List ℕ
 written_numbers list = map settled_number list
 
+-- entries of a leaf lead to rows, and those of other pages to pages
+abbrev pub AreOfLevel : ℕ → List Entry → Type 0
+AreOfLevel level entries = (e : Entry) → Has entries e → is_none (child_of e) ≡ (level == 0)
+
 -- a page can hold the entries, and they are those of its level
 pub record Fits (w : Settled) : Type 0 where
   pub few : length w.entries.items ≤ most_entries
-  pub kinds : (e : Entry) → Has w.entries.items e → is_none (child_of e) ≡ (w.head.level == 0)
+  pub kinds : AreOfLevel w.head.level w.entries.items
 
 -- these pages can be changed: all of them are or there is room for the others
 pub record MayWrite {S : Type 0} (g : Ghosts S) (list : List ℕ) (now : S) : Type 0 where

@@ -25,7 +25,7 @@ pub(crate) fn take_pages<P: Pages>(
     ensures count { OnOk result (length news.new.items ≡ count) }
     ensures taken { P.tells → (s : Space) → HasSpace P.Pages pages.old s
         → count ≤ free_pages (P.shape pages.old).pages s
-        → OnOk result (AreTaken P.Pages count s news.new.items pages.new) }
+        → OnOk result (AreTaken P.Pages count s news.new.items pages.old pages.new) }
     ensures sound { P.tells → (s : Space) → HasSpace P.Pages pages.old s
         → count ≤ free_pages (P.shape pages.old).pages s → IfErr result IsNoDamage }
 {

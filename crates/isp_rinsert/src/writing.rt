@@ -1,5 +1,5 @@
 //! Pages are written.
-ghost use Rattle.std.specs.Prelude.{◌≡◌, ◌↔◌, ◌<◌, ◌≤◌, ◌∷◌, [], ℕ, is_none, length, IfErr, IsTrue, OnOk, true};
+ghost use Rattle.std.specs.Prelude.{◌≡◌, ◌↔◌, ◌<◌, ◌≤◌, ◌∷◌, ◌==◌, [], ℕ, is_none, length, IfErr, IsTrue, OnOk, true};
 ghost use Rattle.isp_base.specs.Lists.{Has, times};
 ghost use Rattle.isp_page.specs.Steps.{IsNoDamage};
 ghost use Rattle.isp_page.specs.State.{HasRoom};
@@ -7,7 +7,7 @@ ghost use Rattle.isp_forest.specs.Tree.{child_in};
 ghost use Rattle.isp_rnode.specs.Nodes.{IsNode};
 ghost use Rattle.isp_rsettle.specs.Settling.{node_with};
 ghost use Rattle.isp_rsettle.specs.declared.outcome.Settled.{Settled};
-ghost use Rattle.isp_rinsert.specs.Applying.{AreWritten, Fits, IsWritten, MayWrite, WritesPages, written_numbers};
+ghost use Rattle.isp_rinsert.specs.Applying.{AreOfLevel, AreWritten, Fits, IsWritten, MayWrite, WritesPages, written_numbers};
 
 use isp_format::{MOST_FANOUT, Page, PageNo, RTREE_KIND, head, set_head};
 use isp_page::{Pages, StoreFault, replace};
@@ -61,24 +61,28 @@ fn write_page<P: Pages>(pages: &mut P, owner: u32, w: &Settled) -> Result<(), St
 fn fits(w: &Settled) -> bool
     ensures { IsTrue result ↔ Fits w.now }
 {
-    if w.entries.len() > MOST_ENTRIES {
-        return false;
-    }
-    for e in w.entries.as_slice() {
-        if is_row(e.to) != (w.head.level == 0) {
+    w.entries.len() <= MOST_ENTRIES && are_of_level(w.entries.as_slice(), w.head.level)
+}
+
+// Whether all entries are such as stand on a page of that level.
+fn are_of_level(entries: &[Entry], level: u8) -> bool
+    ensures { IsTrue result ↔ AreOfLevel level entries.now }
+{
+    for e in entries {
+        if !is_of_level(e.to, level) {
             return false;
         }
     }
     true
 }
 
-// Whether an entry leads to a row.
-fn is_row(to: To) -> bool
-    ensures { result ≡ is_none (child_in to) }
+// Whether an entry that leads there does.
+fn is_of_level(to: To, level: u8) -> bool
+    ensures { IsTrue result ↔ (is_none (child_in to) ≡ (level == 0)) }
 {
     match to {
-        To::Child(_) => false,
-        To::Row { .. } => true,
+        To::Child(_) => level != 0,
+        To::Row { .. } => level == 0,
     }
 }
 

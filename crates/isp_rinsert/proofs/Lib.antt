@@ -1,0 +1,4 @@
+mod ChangeLaws
+mod TakeLaws
+mod WayLaws
+mod WriteLaws
