@@ -1,25 +1,24 @@
 -- Where a plan begins: in the tree with the new entry on its leaf and the boxes on the way grown, the pages of the path stand as
 -- the plan takes them, from the leaf up.
-use Rattle.std.proofs.Common.{◌≡◌, inl, inr, ℕ, zero, suc, ◌+◌, ◌<◌, ◌≤◌, ◌==◌, ◌||◌, Bool, true, false, cond, Option, Some, None, List, [], ◌∷◌, ◌++◌, length, map, reverse, refl, sym, ◌∙◌, ap, subst, arith, eqb-true, eq-eqb, ℤ}
-use Rattle.std.specs.Prelude.{is_none}
+use Rattle.std.proofs.Common.{◌≡◌, inl, inr, ℕ, zero, suc, ◌+◌, ◌<◌, ◌≤◌, ◌==◌, ◌||◌, Bool, true, false, cond, Option, Some, None, List, [], ◌∷◌, ◌++◌, map, reverse, refl, sym, ◌∙◌, ap, subst, arith, eqb-true, eq-eqb, ℤ}
 use Rattle.std.proofs.lemmas.List.{append-nil, append_assoc, reverse-append}
 use Rattle.isp_base.specs.Lists.{Has, times}
-use Rattle.isp_base.specs.declared.page_no.PageNo.{PageNo}
 use Rattle.isp_mbr.specs.Boxes.{union}
 use Rattle.isp_mbr.specs.Corners.{Corners}
 use Rattle.isp_forest.specs.declared.entry.Entry.{Entry}
 use Rattle.isp_forest.specs.declared.entry.To.TheVariants.{Row}
-use Rattle.isp_forest.specs.Forest.{Forest, IsBelow, IsPage}
-use Rattle.isp_forest.specs.Place.{EndsOnLeaf, IsPath, Names, Stands}
+use Rattle.isp_forest.specs.Forest.{Forest, IsBelow}
+use Rattle.isp_forest.specs.Place.{IsPath, Names, Stands}
 use Rattle.isp_forest.specs.Steps.{add, added_to, is_among, is_last, names, widened}
 use Rattle.isp_forest.specs.Tree.{Node, Tree, child_of, page_at}
 use Rattle.isp_laws.proofs.AddLaws.{last_is_leaf}
-use Rattle.isp_laws.proofs.ForestLaws.{child_there, not_free, same_page}
+use Rattle.isp_laws.proofs.ForestLaws.{not_free}
 use Rattle.isp_laws.proofs.ListLaws.{Has-append_left, Has-map_of, times-same}
 use Rattle.isp_laws.proofs.PageLaws.{changed, page_in-each}
 use Rattle.isp_rplan.specs.declared.steps.Carry.TheVariants.{Added}
 use Rattle.isp_rplan.specs.declared.steps.PathPage.{PathPage}
-use Rattle.isp_rplan.proofs.StepLaws.{AllHave, AreUp, HasEntries, IsUp, map_same, page_numbers}
+use Rattle.isp_rplan.specs.Divisions.{HasEntries, page_numbers}
+use Rattle.isp_rplan.proofs.StepLaws.{AllHave, AreUp, IsUp, map_same}
 
 -- ---- levels along a path
 
@@ -40,41 +39,41 @@ next_level tree forest p q e n = by (page_at tree q) refl
 -- the pages behind the first lie below it
 deeper : (tree : Tree) → Forest tree → (p : ℕ) (rest : List ℕ) (x : ℕ) → IsPath tree (p ∷ rest) → 0 < times x rest → level_at tree x < level_at tree p
 deeper tree forest p [] x path h = absurd (omega (arith, h))
-deeper tree forest p (q ∷ rest) x path h = by (q == x) refl
+deeper tree forest p (q ∷ rest) x path h = by (q == x) refl (λ later. deeper tree forest q rest x path.1 later)
   where
     next : level_at tree p ≡ suc (level_at tree q)
     next = next_level tree forest p q path.0.0 path.0.1
 
-    by : (t : Bool) → (q == x) ≡ t → level_at tree x < level_at tree p
-    by true is = let same : level_at tree q ≡ level_at tree x = ap (level_at tree) (eqb-true q x is) in omega (arith, next, same)
-    by false is =
+    by : (t : Bool) → (q == x) ≡ t → (0 < times x rest → level_at tree x < level_at tree q) → level_at tree x < level_at tree p
+    by true is again = let same : level_at tree q ≡ level_at tree x = ap (level_at tree) (eqb-true q x is) in omega (arith, next, same)
+    by false is again =
         let one : ◌≡◌ {A = ℕ} (cond (q == x) 1 0) 0 = ap (λ (b : Bool). let n : ℕ = cond b 1 0 in n) is in
-        let low : level_at tree x < level_at tree q = deeper tree forest q rest x path.1 (omega (arith, h, one)) in
+        let low : level_at tree x < level_at tree q = again (omega (arith, h, one)) in
         omega (arith, next, low)
+
+tail_path : (tree : Tree) (p : ℕ) (rest : List ℕ) → IsPath tree (p ∷ rest) → IsPath tree rest
+tail_path tree p [] path = path
+tail_path tree p (q ∷ rest) path = path.1
 
 -- two pages of a path on one level are one
 level_once : (tree : Tree) → Forest tree → (path : List ℕ) (x y : ℕ) → IsPath tree path → 0 < times x path → 0 < times y path → level_at tree x ≡ level_at tree y → x ≡ y
 level_once tree forest [] x y path hx hy same = absurd (omega (arith, hx))
-level_once tree forest (p ∷ rest) x y path hx hy same = by (p == x) (p == y) refl refl
+level_once tree forest (p ∷ rest) x y path hx hy same = by (p == x) (p == y) refl refl (λ jx jy. level_once tree forest rest x y (tail_path tree p rest path) jx jy same)
   where
-    tail_path : (rest : List ℕ) → IsPath tree (p ∷ rest) → IsPath tree rest
-    tail_path [] path = path
-    tail_path (q ∷ rest) path = path.1
-
     behind : (z : ℕ) → (p == z) ≡ false → 0 < times z (p ∷ rest) → 0 < times z rest
     behind z is h = let none : ◌≡◌ {A = ℕ} (cond (p == z) 1 0) 0 = ap (λ (b : Bool). let n : ℕ = cond b 1 0 in n) is in omega (arith, h, none)
 
-    by : (s t : Bool) → (p == x) ≡ s → (p == y) ≡ t → x ≡ y
-    by true true sx sy = sym (eqb-true p x sx) ∙ eqb-true p y sy
-    by true false sx sy =
+    by : (s t : Bool) → (p == x) ≡ s → (p == y) ≡ t → (0 < times x rest → 0 < times y rest → x ≡ y) → x ≡ y
+    by true true sx sy again = sym (eqb-true p x sx) ∙ eqb-true p y sy
+    by true false sx sy again =
         let low : level_at tree y < level_at tree p = deeper tree forest p rest y path (behind y sy hy) in
         let at : level_at tree p ≡ level_at tree x = ap (level_at tree) (eqb-true p x sx) in
         absurd (omega (arith, low, at, same))
-    by false true sx sy =
+    by false true sx sy again =
         let low : level_at tree x < level_at tree p = deeper tree forest p rest x path (behind x sx hx) in
         let at : level_at tree p ≡ level_at tree y = ap (level_at tree) (eqb-true p y sy) in
         absurd (omega (arith, low, at, same))
-    by false false sx sy = level_once tree forest rest x y (tail_path rest path) (behind x sx hx) (behind y sy hy) same
+    by false false sx sy again = again (behind x sx hx) (behind y sy hy)
 
 -- a path has no page twice
 path_once : (tree : Tree) → Forest tree → (path : List ℕ) (x : ℕ) → IsPath tree path → times x path ≤ 1
@@ -84,14 +83,11 @@ path_once tree forest (p ∷ []) x path = by (p == x)
     by : (t : Bool) → cond t 1 0 + 0 ≤ 1
     by true = omega arith
     by false = omega arith
-path_once tree forest (p ∷ q ∷ rest) x path = by (p == x) refl
+path_once tree forest (p ∷ q ∷ rest) x path = by (p == x) refl (path_once tree forest (q ∷ rest) x path.1)
   where
-    later : times x (q ∷ rest) ≤ 1
-    later = path_once tree forest (q ∷ rest) x path.1
-
-    by : (t : Bool) → (p == x) ≡ t → cond (p == x) 1 0 + times x (q ∷ rest) ≤ 1
-    by false is = let none : ◌≡◌ {A = ℕ} (cond (p == x) 1 0) 0 = ap (λ (b : Bool). let n : ℕ = cond b 1 0 in n) is in omega (arith, later, none)
-    by true is = count (times x (q ∷ rest)) refl
+    by : (t : Bool) → (p == x) ≡ t → times x (q ∷ rest) ≤ 1 → cond (p == x) 1 0 + times x (q ∷ rest) ≤ 1
+    by false is later = let none : ◌≡◌ {A = ℕ} (cond (p == x) 1 0) 0 = ap (λ (b : Bool). let n : ℕ = cond b 1 0 in n) is in omega (arith, later, none)
+    by true is later = count (times x (q ∷ rest)) refl
       where
         one : ◌≡◌ {A = ℕ} (cond (p == x) 1 0) 1
         one = ap (λ (b : Bool). let n : ℕ = cond b 1 0 in n) is
@@ -105,41 +101,42 @@ path_once tree forest (p ∷ q ∷ rest) x path = by (p == x) refl
 
 among_times : (path : List ℕ) (x : ℕ) → is_among path x ≡ true → 0 < times x path
 among_times [] x h = cc
-among_times (p ∷ rest) x h = by (p == x) refl h
+among_times (p ∷ rest) x h = by (p == x) refl h (among_times rest x)
   where
-    by : (t : Bool) → (p == x) ≡ t → (t || is_among rest x) ≡ true → 0 < times x (p ∷ rest)
-    by true is h' = let one : ◌≡◌ {A = ℕ} (cond (p == x) 1 0) 1 = ap (λ (b : Bool). let n : ℕ = cond b 1 0 in n) is in omega (arith, one)
-    by false is h' = let later = among_times rest x h' in omega (arith, later)
+    by : (t : Bool) → (p == x) ≡ t → (t || is_among rest x) ≡ true → (is_among rest x ≡ true → 0 < times x rest) → 0 < times x (p ∷ rest)
+    by true is h' again = let one : ◌≡◌ {A = ℕ} (cond (p == x) 1 0) 1 = ap (λ (b : Bool). let n : ℕ = cond b 1 0 in n) is in omega (arith, one)
+    by false is h' again = let later = again h' in omega (arith, later)
 
 times_among : (path : List ℕ) (x : ℕ) → 0 < times x path → is_among path x ≡ true
 times_among [] x h = absurd (omega (arith, h))
-times_among (p ∷ rest) x h = by (p == x) refl
+times_among (p ∷ rest) x h = by (p == x) refl (times_among rest x)
   where
-    by : (t : Bool) → (p == x) ≡ t → (t || is_among rest x) ≡ true
-    by true is = refl
-    by false is = let none : ◌≡◌ {A = ℕ} (cond (p == x) 1 0) 0 = ap (λ (b : Bool). let n : ℕ = cond b 1 0 in n) is in times_among rest x (omega (arith, h, none))
+    by : (t : Bool) → (p == x) ≡ t → (0 < times x rest → is_among rest x ≡ true) → (t || is_among rest x) ≡ true
+    by true is again = refl
+    by false is again = let none : ◌≡◌ {A = ℕ} (cond (p == x) 1 0) 0 = ap (λ (b : Bool). let n : ℕ = cond b 1 0 in n) is in again (omega (arith, h, none))
 
 -- ---- the tree with the new entry
 
 module _ (tree : Tree) (forest : Forest tree) (path : List ℕ) (stands : Stands tree path) (b : Corners) (key : ℤ) (number : ℕ) where
-
   abbrev pub grown_tree : Tree
   grown_tree = add tree path b key number
 
   grown_at : (q : ℕ) (page : Node) → page_at tree q ≡ Some page → page_at grown_tree q ≡ Some (added_to path b key number q page)
   grown_at q page there = page_in-each (added_to path b key number) tree.pages q ∙ ap (changed (added_to path b key number) q) there
 
-  grown_free : (q : ℕ) → page_at tree q ≡ None → page_at grown_tree q ≡ None
+  pub grown_free : (q : ℕ) → page_at tree q ≡ None → page_at grown_tree q ≡ None
   grown_free q free = page_in-each (added_to path b key number) tree.pages q ∙ ap (changed (added_to path b key number) q) free
 
   names_grown : (p q : ℕ) (e : Entry) → Names tree p q e → (d : Entry) × Names grown_tree p q d
-  names_grown p q e n =
-      (widened path b e, record {
-        page = added_to path b key number p n.page;
-        there = grown_at p n.page n.there;
-        has = Has-append_left (map (widened path b) n.page.entries) _ (widened path b e) (Has-map_of (widened path b) n.page.entries e n.has);
-        to = n.to;
-      })
+  names_grown p q e n = (
+    widened path b e,
+    record {
+      page = added_to path b key number p n.page;
+      there = grown_at p n.page n.there;
+      has = Has-append_left (map (widened path b) n.page.entries) _ (widened path b e) (Has-map_of (widened path b) n.page.entries e n.has);
+      to = n.to;
+    },
+  )
 
   widened_by : (s t : Bool) (e : Entry) → s ≡ t → ◌≡◌ {A = Entry} (record { b = cond s (union e.b b) e.b; to = e.to }) (record { b = cond t (union e.b b) e.b; to = e.to })
   widened_by s t e same = ap (λ (u : Bool). record { b = cond u (union e.b b) e.b; to = e.to }) same
@@ -166,12 +163,12 @@ module _ (tree : Tree) (forest : Forest tree) (path : List ℕ) (stands : Stands
   -- a page of the path that isn't the last
   inner_has : (p q : PathPage) (e : Entry) → Names tree p.page.0 q.page.0 e → 0 < times q.page.0 path → HasEntries tree p.page.0 p.entries.items → HasEntries grown_tree p.page.0 (map (widened (q.page.0 ∷ []) b) p.entries.items)
   inner_has p q e n on h = record {
-      node = added_to path b key number p.page.0 h.node;
-      there = grown_at p.page.0 h.node h.there;
-      entries_are = not_last (is_last path p.page.0) refl
-          ∙ map_by (widened path b) (widened (q.page.0 ∷ []) b) h.node.entries (λ d has. widened_by (names (is_among path) (child_of d)) (names (is_among (q.page.0 ∷ [])) (child_of d)) d (one_grows p.page.0 q.page.0 e n stands.steps on d h.node h.there has (child_of d) refl))
-          ∙ ap (map (widened (q.page.0 ∷ []) b)) h.entries_are;
-    }
+    node = added_to path b key number p.page.0 h.node;
+    there = grown_at p.page.0 h.node h.there;
+    entries_are = not_last (is_last path p.page.0) refl
+        ∙ map_by (widened path b) (widened (q.page.0 ∷ []) b) h.node.entries (λ d has. widened_by (names (is_among path) (child_of d)) (names (is_among (q.page.0 ∷ [])) (child_of d)) d (one_grows p.page.0 q.page.0 e n stands.steps on d h.node h.there has (child_of d) refl))
+        ∙ ap (map (widened (q.page.0 ∷ []) b)) h.entries_are;
+  }
     where
       row : Entry
       row = record { b = b; to = Row key number }
@@ -186,11 +183,11 @@ module _ (tree : Tree) (forest : Forest tree) (path : List ℕ) (stands : Stands
   -- the last one
   leaf_has : (p : PathPage) → is_last path p.page.0 ≡ true → HasEntries tree p.page.0 p.entries.items → HasEntries grown_tree p.page.0 (p.entries.items ++ (record { b = b; to = Row key number }) ∷ [])
   leaf_has p last h = record {
-      node = added_to path b key number p.page.0 h.node;
-      there = grown_at p.page.0 h.node h.there;
-      entries_are = ap (λ (u : Bool). map (widened path b) h.node.entries ++ cond u ((record { b = b; to = Row key number }) ∷ []) []) last
-          ∙ ap (λ (es : List Entry). es ++ (record { b = b; to = Row key number }) ∷ []) (map_same (widened path b) h.node.entries (λ e has. rows e has (child_of e) refl) ∙ h.entries_are);
-    }
+    node = added_to path b key number p.page.0 h.node;
+    there = grown_at p.page.0 h.node h.there;
+    entries_are = ap (λ (u : Bool). map (widened path b) h.node.entries ++ cond u ((record { b = b; to = Row key number }) ∷ []) []) last
+        ∙ ap (λ (es : List Entry). es ++ (record { b = b; to = Row key number }) ∷ []) (map_same (widened path b) h.node.entries (λ e has. rows e has (child_of e) refl) ∙ h.entries_are);
+  }
     where
       rows : (e : Entry) → Has h.node.entries e → (m : Option ℕ) → child_of e ≡ m → widened path b e ≡ e
       rows e has None to = widened_by (names (is_among path) (child_of e)) false e (ap (names (is_among path)) to)
@@ -231,14 +228,18 @@ record Down (tree : Tree) (forest : Forest tree) (path : List ℕ) (b : Corners)
 down : (tree : Tree) (forest : Forest tree) (path : List ℕ) (stands : Stands tree path) (b : Corners) (key : ℤ) (number : ℕ) → page_at tree 0 ≡ None
     → (p : PathPage) (rest done : List PathPage) → Down tree forest path b key number p rest done
     → (leaf : PathPage) × (above : List PathPage) × (onto (p ∷ rest) done ≡ leaf ∷ above) × AreUp (add tree path b key number) b (Added b) (Row key number) leaf above
-down tree forest path stands b key number none p [] done d =
-    (p, done, refl, record {
-      up = d.up;
-      hand = leaf_has tree forest path stands b key number p (d.ends p.page.0 ∙ eq-eqb p.page.0 p.page.0 refl) (d.has p (inl refl));
-      others = d.passed;
-      once = λ q. (let h = d.counted q in let k = path_once tree forest path q stands.steps in omega (arith, h, k));
-      none = grown_free tree forest path stands b key number 0 none;
-    })
+down tree forest path stands b key number none p [] done d = (
+  p,
+  done,
+  refl,
+  record {
+    up = d.up;
+    hand = leaf_has tree forest path stands b key number p (d.ends p.page.0 ∙ eq-eqb p.page.0 p.page.0 refl) (d.has p (inl refl));
+    others = d.passed;
+    once = λ q. (let h = d.counted q in let k = path_once tree forest path q stands.steps in omega (arith, h, k));
+    none = grown_free tree forest path stands b key number 0 none;
+  },
+)
 down tree forest path stands b key number none p (q ∷ rest) done d =
     let here : times q.page.0 (q.page.0 ∷ page_numbers rest) ≡ suc (times q.page.0 (page_numbers rest)) = times-same q.page.0 (page_numbers rest) in
     let on : 0 < times q.page.0 path = let h = d.counted q.page.0 in omega (arith, h, here) in

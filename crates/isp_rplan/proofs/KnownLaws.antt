@@ -1,8 +1,9 @@
 -- New entries whose number comes to be known: boxes and places stay.
-use Rattle.std.proofs.Common.{◌≡◌, inl, inr, ℕ, zero, suc, ◌+◌, ◌*◌, ◌/◌, ◌<◌, ◌≤◌, ◌==◌, Bool, true, false, cond, Option, Some, None, List, [], ◌∷◌, ◌++◌, length, map, max, refl, sym, ◌∙◌, ap, subst, arith}
-use Rattle.std.specs.Prelude.{filter_map, slice_get}
+use Rattle.std.proofs.Common.{◌≡◌, inl, inr, ℕ, ◌*◌, ◌/◌, ◌<◌, ◌≤◌, ◌==◌, Bool, true, false, cond, Option, Some, None, List, [], ◌∷◌, ◌++◌, length, map, refl, sym, ◌∙◌, ap, subst, arith}
+use Rattle.std.specs.Prelude.{slice_get}
 use Rattle.std.specs.List.{cons_option}
 use Rattle.std.specs.Option.{option_map}
+use Rattle.std.proofs.lemmas.Int.{clamps}
 use Rattle.std.proofs.lemmas.List.{length-map}
 use Rattle.std.proofs.lemmas.Option.{slice_get-map}
 use Rattle.std.proofs.Math.Nat.{mul-div-le}
@@ -12,7 +13,6 @@ use Rattle.isp_mbr.specs.Boxes.{union}
 use Rattle.isp_mbr.specs.Corners.{Corners}
 use Rattle.isp_forest.specs.declared.entry.Entry.{Entry}
 use Rattle.isp_forest.specs.declared.entry.To.{To}
-use Rattle.isp_forest.specs.Place.{IsDivision}
 use Rattle.isp_forest.specs.Steps.{names, reboxed, widened}
 use Rattle.isp_forest.specs.Tree.{around, child_of, least}
 use Rattle.isp_laws.specs.DivisionLaws.{AreParts, boxes_of, picked}
@@ -47,8 +47,8 @@ picked_known to es (k ∷ places) =
 
 -- an entry that leads somewhere stays
 stays_known : (to : To) (e : Entry) (b : Bool) → names (λ q. q == 0) (child_of e) ≡ b → b ≡ false → known to e ≡ e
-stays_known to e true is no = cc
-stays_known to e false is no = ap (λ (t : Bool). record { b = e.b; to = cond t to e.to }) is
+stays_known to e true is off = cc
+stays_known to e false is off = ap (λ (t : Bool). record { b = e.b; to = cond t to e.to }) is
 
 all_known : (to : To) (es : List Entry) → ((e : Entry) → Has es e → names (λ q. q == 0) (child_of e) ≡ false) → map (known to) es ≡ es
 all_known to [] none = refl

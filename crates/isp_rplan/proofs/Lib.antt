@@ -1,5 +1,7 @@
 pub mod BeginLaws
 mod BoxLaws
+pub mod DivideLaws
 pub mod KnownLaws
+mod OneLaws
 pub mod RootLaws
 pub mod StepLaws

@@ -1,25 +1,23 @@
 -- The root is divided: its content moves to a page of its own first, which is divided then.
-use Rattle.std.proofs.Common.{◌≡◌, inl, inr, ℕ, suc, ◌+◌, ◌<◌, ◌≤◌, ◌==◌, Bool, true, false, cond, Option, Some, None, List, [], ◌∷◌, ◌++◌, length, map, refl, sym, ◌∙◌, ap, subst, arith, eqb-true, eq-eqb}
-use Rattle.isp_base.specs.Lists.{Has}
+use Rattle.std.proofs.Common.{◌≡◌, inl, ℕ, suc, ◌==◌, Bool, true, false, cond, Option, Some, None, List, [], ◌∷◌, ◌++◌, map, refl, sym, ◌∙◌, ap, subst, eqb-true, eq-eqb}
 use Rattle.isp_format.specs.Control.{IsFanout}
 use Rattle.isp_mbr.specs.Corners.{Corners}
 use Rattle.isp_forest.specs.declared.entry.Entry.{Entry}
 use Rattle.isp_forest.specs.declared.entry.To.{To}
 use Rattle.isp_forest.specs.Forest.{Forest}
-use Rattle.isp_forest.specs.Place.{CanRaise, CanSplit, IsFree, Names}
-use Rattle.isp_forest.specs.Steps.{entry_for, raise, raised, reboxed, split}
+use Rattle.isp_forest.specs.Place.{CanRaise, CanSplit, IsFree}
+use Rattle.isp_forest.specs.Steps.{entry_for, raise, split}
 use Rattle.isp_forest.specs.Tree.{Node, Tree, counter, least, page_at}
 use Rattle.isp_laws.specs.DivisionLaws.{AreParts}
 use Rattle.isp_laws.proofs.ForestLaws.{counter_is, same_page}
 use Rattle.isp_laws.proofs.PageLaws.{page_in-put_other, page_in-put_same}
-use Rattle.isp_laws.proofs.PlaceLaws.{can_raise, raised_page}
+use Rattle.isp_laws.proofs.PlaceLaws.{raised_page}
 use Rattle.isp_laws.proofs.RaiseLaws.{apart, lifted, made, moved, raise_keeps}
-use Rattle.isp_laws.proofs.SplitLaws.{round}
 use Rattle.isp_rplan.specs.Plans.{AreDivided, known, with_carry}
 use Rattle.isp_rplan.specs.declared.steps.Carry.{Carry}
 use Rattle.isp_rplan.specs.declared.steps.PathPage.{PathPage}
 use Rattle.isp_rplan.proofs.KnownLaws.{divided_known, parts_of}
-use Rattle.isp_rplan.proofs.StepLaws.{AreUp, above_entries, hand_known, split_at_n, split_at_o, split_at_old, splitting}
+use Rattle.isp_rplan.proofs.StepLaws.{AreUp, hand_known, split_at_n, split_at_o, split_at_old}
 
 -- the root as a page that is at hand
 pub at_top : (tree : Tree) (forest : Forest tree) (b : Corners) (carry : Carry) (to : To) (page : PathPage) → (u : AreUp tree b carry to page []) → u.hand.node ≡ forest.top

@@ -1,6 +1,6 @@
 -- A plan is carried out on the tree page by page: the page at hand is divided as the plan has it, and what the plan has for the
 -- pages above is right for the tree that comes of it.
-use Rattle.std.proofs.Common.{◌≡◌, ◌⊎◌, inl, inr, ℕ, zero, suc, ◌+◌, ◌<◌, ◌≤◌, ◌==◌, ◌||◌, Bool, true, false, cond, Option, Some, None, List, [], ◌∷◌, ◌++◌, length, map, refl, sym, ◌∙◌, ap, subst, arith, eqb-true, eq-eqb}
+use Rattle.std.proofs.Common.{◌≡◌, inl, inr, ℕ, suc, ◌<◌, ◌≤◌, ◌==◌, ◌||◌, Bool, true, false, cond, Option, Some, None, List, [], ◌∷◌, ◌++◌, map, refl, sym, ◌∙◌, ap, subst, arith, eqb-true, eq-eqb}
 use Rattle.std.proofs.lemmas.List.{append-nil}
 use Rattle.std.proofs.lemmas.Bool.Decides.{nat_tests}
 use Rattle.isp_base.specs.Lists.{Has, times}
@@ -12,24 +12,20 @@ use Rattle.isp_forest.specs.declared.entry.Entry.{Entry}
 use Rattle.isp_forest.specs.declared.entry.To.{To}
 use Rattle.isp_forest.specs.declared.entry.To.TheVariants.{Child}
 use Rattle.isp_forest.specs.Forest.{Forest}
-use Rattle.isp_forest.specs.Place.{CanSplit, Division, IsFree, Names}
+use Rattle.isp_forest.specs.Place.{CanSplit, IsFree, Names}
 use Rattle.isp_forest.specs.Steps.{entry_for, is_among, names, reboxed, split, widened}
 use Rattle.isp_forest.specs.Tree.{Node, Tree, child_of, counter, least, page_at}
 use Rattle.isp_laws.specs.DivisionLaws.{AreParts}
-use Rattle.isp_laws.proofs.ForestLaws.{not_free, one_parent, same_page}
+use Rattle.isp_laws.proofs.ForestLaws.{not_free, one_parent}
 use Rattle.isp_laws.proofs.ListLaws.{Has-append_left, Has-map_of}
 use Rattle.isp_laws.proofs.PageLaws.{changed, page_in-each}
-use Rattle.isp_laws.proofs.SplitLaws.{Splitting, after_split, at_n, at_o, at_old, at_other, counter_grows, gone, kept, round, split_is, split_keeps}
-use Rattle.isp_rplan.specs.Plans.{AreDivided, AreParted, AreWhole, known, moves_of, with_carry, with_known}
+use Rattle.isp_laws.proofs.SplitLaws.{Splitting, at_n, at_o, at_old, at_other, round, split_is}
+use Rattle.isp_rplan.specs.Divisions.{HasEntries, page_numbers}
+use Rattle.isp_rplan.specs.Plans.{AreDivided, AreWhole, known, with_carry, with_known}
 use Rattle.isp_rplan.specs.declared.steps.Carry.{Carry}
 use Rattle.isp_rplan.specs.declared.steps.Carry.TheVariants.{Divided, Grown}
 use Rattle.isp_rplan.specs.declared.steps.PathPage.{PathPage}
 use Rattle.isp_rplan.proofs.KnownLaws.{carry_known, divided_known, least_known, parts_of}
-
--- the numbers of the pages
-abbrev pub page_numbers : List PathPage → List ℕ
-page_numbers [] = []
-page_numbers (p ∷ pages) = p.page.0 ∷ page_numbers pages
 
 -- each page is named by the next, and the last is the root
 abbrev pub IsUp : Tree → List ℕ → Type 0
@@ -37,13 +33,7 @@ IsUp tree [] = ⊥
 IsUp tree (o ∷ []) = o ≡ tree.root
 IsUp tree (o ∷ above ∷ up) = ((e : Entry) × Names tree above o e) × IsUp tree (above ∷ up)
 
--- the page of the tree has these entries
-pub record HasEntries (tree : Tree) (q : ℕ) (entries : List Entry) : Type 0 where
-  pub node : Node
-  pub there : page_at tree q ≡ Some node
-  pub entries_are : node.entries ≡ entries
-
--- so do all of these pages, each with the entry for the page below it grown round the box
+-- the pages have their entries, each with the entry for the page below it grown round the box
 abbrev pub AllHave : Tree → Corners → PageNo → List PathPage → Type 0
 AllHave tree b below [] = Unit {0}
 AllHave tree b below (p ∷ pages) = HasEntries tree p.page.0 (map (widened (below.0 ∷ []) b) p.entries.items) × AllHave tree b p.page pages
@@ -167,13 +157,13 @@ split_free tree forest o above n left right can x not_n free =
     there_other true is = let at : o ≡ x = eqb-true o x is in let there : page_at tree x ≡ Some can.page = subst (λ (z : ℕ). page_at tree z ≡ Some can.page) at can.there in absurd (let no : ◌≡◌ {A = Option Node} None (Some can.page) = sym free ∙ there in cc)
 
 -- the entries of a page that isn't the one above don't name the divided one, so they stay
-map_same : (f : Entry → Entry) (es : List Entry) → ((e : Entry) → Has es e → f e ≡ e) → map f es ≡ es
+pub map_same : (f : Entry → Entry) (es : List Entry) → ((e : Entry) → Has es e → f e ≡ e) → map f es ≡ es
 map_same f [] h = refl
 map_same f (e ∷ es) h = ap (λ x. x ∷ map f es) (h e (inl refl)) ∙ ap (λ xs. e ∷ xs) (map_same f es (λ d k. h d (inr k)))
 
 reboxed_other : (o : ℕ) (b : Corners) (e : Entry) (t : Bool) → names (λ q. q == o) (child_of e) ≡ t → t ≡ false → reboxed o b e ≡ e
-reboxed_other o b e true is no = cc
-reboxed_other o b e false is no = ap (λ (t : Bool). record { b = cond t b e.b; to = e.to }) is
+reboxed_other o b e true is off = cc
+reboxed_other o b e false is off = ap (λ (t : Bool). record { b = cond t b e.b; to = e.to }) is
 
 names_no_o : (tree : Tree) → Forest tree → (o above p : ℕ) (page : Node) (named : (e : Entry) × Names tree above o e) → page_at tree p ≡ Some page → (above == p) ≡ false → (e : Entry) → Has page.entries e → (m : Option ℕ) → child_of e ≡ m → names (λ q. q == o) m ≡ false
 names_no_o tree forest o above p page named there other e has None to = refl
@@ -204,13 +194,15 @@ other_entries tree forest o above n left right can x page there other =
 -- each page above still names the one below it
 names_still : (tree : Tree) (forest : Forest tree) (o above n : ℕ) (left right : List Entry) (can : CanSplit tree o above left right n) (p q : ℕ) (e : Entry) → (o == p) ≡ false → Names tree p q e → (d : Entry) × Names (split tree o above left right n) p q d
 names_still tree forest o above n left right can p q e other names =
-    let c = splitting tree forest o above n left right can in
-    (reboxed o (least left) e, record {
-      page = round c p names.page;
-      there = split_at_old tree forest o above n left right can p names.page other names.there;
-      has = Has-append_left (map (reboxed o (least left)) names.page.entries) _ (reboxed o (least left) e) (Has-map_of (reboxed o (least left)) names.page.entries e names.has);
-      to = names.to;
-    })
+    let c = splitting tree forest o above n left right can in (
+      reboxed o (least left) e,
+      record {
+        page = round c p names.page;
+        there = split_at_old tree forest o above n left right can p names.page other names.there;
+        has = Has-append_left (map (reboxed o (least left)) names.page.entries) _ (reboxed o (least left) e) (Has-map_of (reboxed o (least left)) names.page.entries e names.has);
+        to = names.to;
+      },
+    )
 
 up_still : (tree : Tree) (forest : Forest tree) (o above n : ℕ) (left right : List Entry) (can : CanSplit tree o above left right n) (up : List ℕ) → ((q : ℕ) → times q (o ∷ up) ≤ 1) → IsUp tree up → IsUp (split tree o above left right n) up
 up_still tree forest o above n left right can [] once is = is
@@ -251,12 +243,14 @@ others_still : (tree : Tree) (forest : Forest tree) (o above n : ℕ) (left righ
     → ((q : ℕ) → times q (o ∷ page_numbers pages) ≤ 1) → ((q : ℕ) → times q (above ∷ page_numbers pages) ≤ 1) → AllHave tree b below pages → AllHave (split tree o above left right n) b below pages
 others_still tree forest o above n left right can b below [] not_o not_above all = all
 others_still tree forest o above n left right can b below (p ∷ pages) not_o not_above all =
-    let s = all.0 in
-    (record {
-      node = round (splitting tree forest o above n left right can) p.page.0 s.node;
-      there = split_at_old tree forest o above n left right can p.page.0 s.node (other_page o (p ∷ pages) p not_o (inl refl)) s.there;
-      entries_are = other_entries tree forest o above n left right can p.page.0 s.node s.there (other_page above (p ∷ pages) p not_above (inl refl)) ∙ s.entries_are;
-    }, others_still tree forest o above n left right can b p.page pages (λ q. (let h = not_o q in omega (arith, h))) (λ q. (let h = not_above q in omega (arith, h))) all.1)
+    let s = all.0 in (
+      record {
+        node = round (splitting tree forest o above n left right can) p.page.0 s.node;
+        there = split_at_old tree forest o above n left right can p.page.0 s.node (other_page o (p ∷ pages) p not_o (inl refl)) s.there;
+        entries_are = other_entries tree forest o above n left right can p.page.0 s.node s.there (other_page above (p ∷ pages) p not_above (inl refl)) ∙ s.entries_are;
+      },
+      others_still tree forest o above n left right can b p.page pages (λ q. (let h = not_o q in omega (arith, h))) (λ q. (let h = not_above q in omega (arith, h))) all.1,
+    )
 
 -- the plan for the pages above is right for the tree that comes of the split
 pub divided_up : (tree : Tree) (forest : Forest tree) (fanout : ℕ) → IsFanout fanout → (b : Corners) (carry : Carry) (to : To) (page next : PathPage) (pages : List PathPage) (stays moves : List Entry) (n : PageNo)

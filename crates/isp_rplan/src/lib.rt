@@ -4,12 +4,15 @@
 //! - `steps`: the pages of a path, and what is made of each.
 //! - `planning`: the plan.
 //! - `boxes`: the boxes of entries.
+//! - `laws`: there is one plan, and it divides exactly the pages that overflow.
 #![tactic(auto)]
 
 mod boxes;
+mod laws;
 mod planning;
 mod steps;
 
 pub use boxes::{least, widen};
+pub use laws::{law_one_plan, law_plan_divides};
 pub use planning::plan;
 pub use steps::{Carry, Moves, NodeHead, PathPage, Planned};

@@ -1,4 +1,4 @@
-use Rattle.std.proofs.Common.{◌≡◌, ◌≤◌, ℕ, drop, length}
+use Rattle.std.proofs.Common.{◌≤◌, length}
 use Rattle.isp_rplan.proofs.BoxLaws.{IsRound}
 use Rattle.isp_rplan.proofs.boxes.least.Given as goal
 
