@@ -12,13 +12,14 @@ use Rattle.isp_forest.specs.Place.{CanRelieve, Division, IsFree, Stands, place}
 use Rattle.isp_forest.specs.Steps.{add, split}
 use Rattle.isp_forest.specs.Tree.{Node, Tree, counter, least, numbers, page_at, page_in}
 use Rattle.isp_rnode.specs.Nodes.{link_of}
+use Rattle.isp_rplan.specs.Divisions.{divisions, pages_needed, raised_to}
 use Rattle.isp_rplan.specs.Plans.{DividesAll, IsPlan}
 use Rattle.isp_rplan.specs.declared.steps.Carry.TheVariants.{Added}
 use Rattle.isp_rplan.specs.declared.steps.PathPage.{PathPage}
 use Rattle.isp_rplan.specs.declared.steps.Planned.{Planned}
 use Rattle.isp_rsettle.specs.declared.outcome.Parted.{Parted}
 use Rattle.isp_rsettle.specs.declared.outcome.Raised.{Raised}
-use Rattle.isp_rsettle.specs.Settling.{divisions, pages_needed, parts, raised, raised_to, settled}
+use Rattle.isp_rsettle.specs.Settling.{parts, raised, settled}
 
 -- ---- the pages of a path as they were read
 

@@ -6,11 +6,10 @@ use Rattle.isp_base.specs.Lists.{Has}
 use Rattle.isp_base.specs.declared.page_no.PageNo.{PageNo}
 use Rattle.isp_forest.specs.declared.entry.Entry.{Entry}
 use Rattle.isp_forest.specs.declared.entry.To.{To}
-use Rattle.isp_forest.specs.declared.entry.To.TheVariants.{Child}
-use Rattle.isp_forest.specs.Place.{Division}
 use Rattle.isp_forest.specs.Steps.{entry_for}
 use Rattle.isp_forest.specs.Tree.{Node, least}
 use Rattle.isp_rnode.specs.Nodes.{link_of}
+use Rattle.isp_rplan.specs.Divisions.{known_after, news_after, stays_of}
 use Rattle.isp_rplan.specs.Plans.{known, moves_of}
 use Rattle.isp_rplan.specs.declared.steps.Moves.{Moves}
 use Rattle.isp_rplan.specs.declared.steps.NodeHead.{NodeHead}
@@ -36,10 +35,6 @@ abbrev pub nodes_of : List Settled → List (ℕ × Node)
 nodes_of list = map written list
 
 -- ---- one page
-
--- the entries that stay on a page, where its new one leads there
-abbrev pub stays_of : To → Planned → List Entry
-stays_of to s = map (known to) s.stays.items
 
 -- a page that stays whole; the two pages of one that is divided, with the counter before it and the new page
 abbrev pub whole_page : To → Planned → Node
@@ -75,20 +70,10 @@ settled_root counter to s (Some moves) [] = []
 
 -- ---- all pages, from the leaf up to the root
 
--- the counter, where a new entry leads, and the new pages that are left, behind a page
+-- the counter behind a page
 abbrev pub counter_after : ℕ → Option (List Entry) → ℕ
 counter_after counter None = counter
 counter_after counter (Some moves) = suc counter
-
-abbrev pub known_after : To → Option (List Entry) → List PageNo → To
-known_after to None news = to
-known_after to (Some moves) [] = to
-known_after to (Some moves) (n ∷ news) = Child n
-
-abbrev pub news_after : Option (List Entry) → List PageNo → List PageNo
-news_after None news = news
-news_after (Some moves) [] = []
-news_after (Some moves) (n ∷ news) = news
 
 abbrev pub settled : ℕ → To → List Planned → List PageNo → List (ℕ × Node)
 settled counter to [] news = []
@@ -97,46 +82,7 @@ settled counter to (s ∷ next ∷ steps) news =
     settled_page counter to s (moves_of s) news
     ++ settled (counter_after counter (moves_of s)) (known_after to (moves_of s) news) (next ∷ steps) (news_after (moves_of s) news)
 
--- how many pages a plan needs: one for each division, and one more where the root is raised
-abbrev pub needs : Option (List Entry) → ℕ
-needs None = 0
-needs (Some moves) = 1
-
-abbrev pub pages_needed : List Planned → ℕ
-pages_needed [] = 0
-pages_needed (s ∷ []) = needs (moves_of s) + needs (moves_of s)
-pages_needed (s ∷ next ∷ steps) = needs (moves_of s) + pages_needed (next ∷ steps)
-
--- ---- what was divided
-
-abbrev pub division : To → Planned → List Entry → PageNo → Division
-division to s moves n = record { page = n.0; left = stays_of to s; right = map (known to) moves }
-
-abbrev pub division_page : To → Planned → Option (List Entry) → List PageNo → List Division
-division_page to s None news = []
-division_page to s (Some moves) (n ∷ news) = division to s moves n ∷ []
-division_page to s (Some moves) [] = []
-
-abbrev pub division_root : To → Planned → Option (List Entry) → List PageNo → List Division
-division_root to s None news = []
-division_root to s (Some moves) (q ∷ n ∷ news) = division to s moves n ∷ []
-division_root to s (Some moves) (q ∷ []) = []
-division_root to s (Some moves) [] = []
-
-abbrev pub divisions : To → List Planned → List PageNo → List Division
-divisions to [] news = []
-divisions to (s ∷ []) news = division_root to s (moves_of s) news
-divisions to (s ∷ next ∷ steps) news =
-    division_page to s (moves_of s) news ++ divisions (known_after to (moves_of s) news) (next ∷ steps) (news_after (moves_of s) news)
-
--- the page that the content of a raised root moves to
-abbrev pub raised_to : List Planned → List PageNo → ℕ
-raised_to [] news = 0
-raised_to (s ∷ []) [] = 0
-raised_to (s ∷ []) (q ∷ news) = q.0
-raised_to (s ∷ next ∷ steps) news = raised_to (next ∷ steps) (news_after (moves_of s) news)
-
--- ---- the same as a call tells it
+-- ---- what was divided, as a call tells it
 
 abbrev pub part : PageNo → Planned → List Entry → PageNo → Parted
 part old s moves n = record { old = old; new = n; old_box = least s.stays.items; new_box = least moves }

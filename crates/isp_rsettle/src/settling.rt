@@ -2,8 +2,9 @@
 ghost use Rattle.std.specs.Prelude.{◌≡◌, ◌+◌, ◌*◌, ◌<◌, ◌≤◌, ◌++◌, ◌∷◌, [], ℕ, drop, length, map, reverse, vec_capacity};
 ghost use Rattle.isp_forest.specs.Steps.{entry_for};
 ghost use Rattle.isp_forest.specs.Tree.{least};
+ghost use Rattle.isp_rplan.specs.Divisions.{known_after, needs, news_after, pages_needed};
 ghost use Rattle.isp_rplan.specs.Plans.{known, moves_of};
-ghost use Rattle.isp_rsettle.specs.Settling.{AreLow, AreSome, HasRoomFor, HaveSome, counter_after, known_after, needs, news_after, nodes_of, number_limit, pages_needed, part_page, part_root, parts, raised, raised_root, settled, settled_page, settled_root};
+ghost use Rattle.isp_rsettle.specs.Settling.{AreLow, AreSome, HasRoomFor, HaveSome, counter_after, nodes_of, number_limit, part_page, part_root, parts, raised, raised_root, settled, settled_page, settled_root};
 
 use crate::outcome::{Outcome, Parted, Raised, Room, Settled};
 use isp_base::PageNo;
