@@ -1,12 +1,12 @@
 -- Lists of changed pages.
-use Rattle.std.proofs.Common.{◌≡◌, ℕ, ◌+◌, ◌<◌, ◌≤◌, ◌==◌, ◌||◌, Bool, true, false, List, [], ◌∷◌, ◌++◌, length, refl, sym, ◌∙◌, ap, subst, arith, eqb-true, if◌then◌else◌}
+use Rattle.std.proofs.Common.{◌≡◌, ℕ, suc, ◌+◌, ◌<◌, ◌≤◌, ◌==◌, ◌||◌, Bool, true, false, List, [], ◌∷◌, ◌++◌, length, refl, sym, ◌∙◌, ap, subst, arith, eqb-true, if◌then◌else◌}
 use Rattle.isp_format.specs.Ranges.{Contents, page_of}
 use Rattle.isp_page.proofs.GrowthLaws.{among_both, among_self, grows_none, grows_on, grows_within}
 use Rattle.isp_page.specs.State.{HasRoom, MiniTransaction, is_among, most_changed}
-use Rattle.isp_page.specs.Touched.{AreAmong, Grows, KeepsPages, unchanged_of}
+use Rattle.isp_page.specs.Touched.{AreAmong, Grows, KeepsPages, is_page, unchanged_of}
 use Rattle.isp_page.specs.declared.pages.Pages.{Ghosts}
 use Rattle.isp_space.specs.Changes.{ChangesOf}
-use Rattle.isp_space.proofs.ChangesLaws.{changes_on}
+use Rattle.isp_space.proofs.ChangesLaws.{among_one, changes_on}
 
 pub in_left : (x : ℕ) (xs ys : List ℕ) → is_among x xs ≡ true → is_among x (xs ++ ys) ≡ true
 in_left x [] ys h = let bad : false ≡ true = h in cc
@@ -77,3 +77,31 @@ has_room list old now page grows room there out =
     let few = grows.few list (among_self list) in
     let one = counts_one list now.changed page there out in
     omega (arith, few, one, room)
+
+unchanged_few : (list changed : List ℕ) → unchanged_of list changed ≤ length list
+unchanged_few [] changed = omega arith
+unchanged_few (p ∷ list) changed = by (is_among p changed) (unchanged_few list changed)
+  where
+    by : (b : Bool) → unchanged_of list changed ≤ length list → (if b then 0 else 1) + unchanged_of list changed ≤ suc (length list)
+    by true h = omega (arith, h)
+    by false h = omega (arith, h)
+
+-- pages that were taken leave room for all of a list that has them
+pub room_left : (list : List ℕ) (old now : MiniTransaction) → Grows (0 ∷ list) old now → length old.changed + 36 ≤ most_changed → length list ≤ 35 → length now.changed + unchanged_of list now.changed ≤ most_changed
+room_left list old now grows room few =
+    let most = grows.few (0 ∷ list) (among_self (0 ∷ list)) in
+    let before = unchanged_few (0 ∷ list) old.changed in
+    omega (arith, most, before, room, few)
+
+-- page 0 and pages of a list are changed, in three steps
+pub taken_within : {S : Type 0} (g : Ghosts S) (list news : List ℕ) (old mid at : S) → ChangesOf g (0 ∷ []) old mid → ChangesOf g (0 ∷ news) mid at → AreAmong news list → ChangesOf g (0 ∷ list) old at
+taken_within g list news old mid at draws takes among =
+    changes_among g (0 ∷ []) (0 ∷ news) (0 ∷ list) old mid at draws takes (refl, tt) (refl, among_right news (0 ∷ []) list among)
+
+pub written_within : {S : Type 0} (g : Ghosts S) (list : List ℕ) (old at new : S) → ChangesOf g (0 ∷ list) old at → ChangesOf g list at new → ChangesOf g (0 ∷ list) old new
+written_within g list old at new taken writes =
+    changes_among g (0 ∷ list) list (0 ∷ list) old at new taken writes (among_self (0 ∷ list)) (among_right list (0 ∷ []) list (among_self list))
+
+-- the number of an entry was drawn
+pub draws_of : {S : Type 0} (g : Ghosts S) (old mid : S) → Grows (0 ∷ []) (g.mini old) (g.mini mid) → (g.tells → KeepsPages (is_page 0) (g.contents old) (g.contents mid)) → ChangesOf g (0 ∷ []) old mid
+draws_of g old mid grows others = record { grows = grows; others = λ tells. among_one 0 (g.contents old) (g.contents mid) (others tells) }

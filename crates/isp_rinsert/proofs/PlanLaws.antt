@@ -1,16 +1,12 @@
 -- What a plan has of the pages that it is for.
 use Rattle.std.proofs.Common.{inl, inr, ◌≡◌, ℕ, suc, ◌+◌, ◌<◌, ◌≤◌, Option, Some, None, List, [], ◌∷◌, ◌++◌, length, map, reverse, refl, sym, ◌∙◌, ap, subst, arith}
-use Rattle.std.specs.Prelude.{Err, Result, vec_capacity}
+use Rattle.std.specs.Prelude.{vec_capacity}
 use Rattle.std.proofs.lemmas.List.{length-map, map-append, reverse-append, reverse-reverse}
 use Rattle.isp_base.specs.Lists.{Has}
 use Rattle.isp_format.specs.Control.{IsFanout}
 use Rattle.isp_mbr.specs.Corners.{Corners}
 use Rattle.isp_forest.specs.declared.entry.Entry.{Entry}
 use Rattle.isp_laws.proofs.ListLaws.{Has-append_left, Has-append_right}
-use Rattle.isp_page.specs.Calls.{ContinuesOrLacks}
-use Rattle.isp_page.specs.declared.fault.Fault.{Fault}
-use Rattle.isp_page.specs.declared.fault.Fault.TheVariants.{Memory, Store}
-use Rattle.isp_page.specs.declared.pages.Pages.{Ghosts}
 use Rattle.isp_rplan.proofs.KnownLaws.{parts_of}
 use Rattle.isp_rplan.specs.Plans.{AreParted, IsPlan, carry_of, moves_of}
 use Rattle.isp_rplan.specs.declared.steps.Carry.{Carry}
@@ -20,12 +16,10 @@ use Rattle.isp_rplan.specs.declared.steps.Planned.{Planned}
 use Rattle.isp_rsettle.specs.Placed.{path_number}
 use Rattle.isp_rsettle.specs.Settling.{AreSome, HasRoomFor, HaveSome}
 use Rattle.isp_space.specs.Spaces.{most_counted}
-use Rattle.isp_rtree.specs.Calls.{NamesTreeOrLacks, ReadsPagesOrLacks}
-use Rattle.isp_rinsert.specs.Calls.{ReadsTree, StaysAtLack, most_taken}
+use Rattle.isp_rinsert.specs.Calls.{most_taken}
 use Rattle.isp_rinsert.specs.Preparing.{IsReady, IsWay, step_number}
 use Rattle.isp_rinsert.specs.declared.preparing.Prepared.{Prepared}
 use Rattle.isp_rinsert.specs.declared.way.Way.{Way}
-use Rattle.isp_rinsert.proofs.WayLaws.{fails_on}
 
 -- ---- lists the other way round
 
@@ -105,18 +99,3 @@ ready_of pages path fanout b way w fan is plan counter room none news =
   where
     from : (s : Planned) → Has w.steps.items s → From (reverse way.pages.items) s
     from s h = plan_from fanout b (reverse way.pages.items) (Added b) (reverse w.steps.items) plan s (has_reverse w.steps.items s h)
-
--- ---- the growths are read first
-
-lacks_at : {S B : Type 0} (g : Ghosts S) (old new : S) (e : Fault) → (e ≡ Memory → new ≡ old) → StaysAtLack {T = B} g old new (Err e)
-lacks_at g old new (Store fault) same = tt
-lacks_at g old new Memory same = (ap g.mini (same refl), λ tells. ap g.contents (same refl))
-
-pub grown_reads : {S A B : Type 0} (g : Ghosts S) (old new : S) (e : Fault) (r : Result B Fault) → r ≡ Err e → ReadsPagesOrLacks {T = A} g (NamesTreeOrLacks (g.shape old).pages) old new (Err e) → (e ≡ Memory → new ≡ old) → ContinuesOrLacks {T = B} g old new (Err e) → ReadsTree {T = B} g old new r
-grown_reads {B = B} g old new e r is w same kept = subst (λ (x : Result B Fault). ReadsTree {T = B} g old new x) (sym is) (record {
-  kept = kept;
-  contents = λ tells. tt;
-  mini = tt;
-  lacks = lacks_at {B = B} g old new e same;
-  names = w.names;
-})

@@ -7,16 +7,18 @@ use Rattle.isp_forest.specs.declared.entry.Entry.{Entry}
 use Rattle.isp_forest.specs.declared.entry.To.{To}
 use Rattle.isp_forest.specs.declared.entry.To.TheVariants.{Child}
 use Rattle.isp_forest.specs.Tree.{Node, numbers, page_in}
-use Rattle.isp_laws.proofs.ListLaws.{no_longer, times-append}
+use Rattle.isp_laws.proofs.ListLaws.{Has-map, Has-times, Source, no_longer, times-append}
 use Rattle.isp_page.specs.State.{is_among}
 use Rattle.isp_page.specs.Touched.{AreAmong}
 use Rattle.isp_rplan.specs.Plans.{moves_of}
 use Rattle.isp_rplan.specs.declared.steps.Planned.{Planned}
 use Rattle.isp_rsettle.specs.Placed.{page_number}
-use Rattle.isp_rsettle.specs.Settling.{counter_after, known_after, needs, news_after, node_with, nodes_of, pages_needed, settled, settled_page, settled_root}
+use Rattle.isp_rplan.specs.Divisions.{known_after, needs, news_after, pages_needed}
+use Rattle.isp_rsettle.specs.Settling.{counter_after, node_with, nodes_of, settled, settled_page, settled_root}
 use Rattle.isp_rsettle.specs.declared.outcome.Settled.{Settled}
 use Rattle.isp_rinsert.specs.Applying.{written_numbers}
 use Rattle.isp_rinsert.specs.Preparing.{step_number}
+use Rattle.isp_rinsert.proofs.WriteLaws.{has_number}
 
 needs_one : (m : Option (List Entry)) → needs m ≤ 1
 needs_one None = omega arith
@@ -151,3 +153,18 @@ found_at (v ∷ writes) rest w once (inr more) = by (v.page.0 == w.page.0) refl 
     by true is again =
         let one : ◌≡◌ {A = ℕ} (cond (v.page.0 == w.page.0) 1 0) 1 = ap (λ (b : Bool). let n : ℕ = cond b 1 0 in n) is in
         absurd (omega (arith, once w.page.0, one, has_times writes more))
+
+-- all of them are pages of the file, where those of the plan and those that are taken are
+pub inside_any : (pages : ℕ) (steps : List Planned) (counter : ℕ) (to : To) (news : List PageNo) (writes : List Settled) → nodes_of writes ≡ settled counter to (reverse steps) news → length news ≡ pages_needed (reverse steps)
+    → ((s : Planned) → Has steps s → s.page.0 < pages) → ((p : PageNo) → Has news p → p.0 < pages) → (w : Settled) → Has writes w → w.page.0 < pages
+inside_any pages steps counter to news writes is count in_steps in_news w has = by (times w.page.0 (map step_number steps)) refl
+  where
+    by : (n : ℕ) → times w.page.0 (map step_number steps) ≡ n → w.page.0 < pages
+    by (suc n) e =
+        let from : Source step_number steps w.page.0 = Has-map step_number steps w.page.0 (Has-times w.page.0 (map step_number steps) (omega (arith, e))) in
+        subst (λ (q : ℕ). q < pages) from.is (in_steps from.x from.has)
+    by zero e =
+        let c = written_counts steps counter to news writes is count w.page.0 in
+        let some = has_number writes w has in
+        let from : Source page_number news w.page.0 = Has-map page_number news w.page.0 (Has-times w.page.0 (map page_number news) (omega (arith, e, c, some))) in
+        subst (λ (q : ℕ). q < pages) from.is (in_news from.x from.has)

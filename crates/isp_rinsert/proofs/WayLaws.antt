@@ -36,9 +36,9 @@ pub one_more : {S T : Type 0} (g : Ghosts S) (old mid new : S) (x : T) → Conti
 one_more g old mid new x first second = search rules
 
 -- a call that ends with a fault, behind turns that read
-pub lacks_on : {S A B : Type 0} (g : Ghosts S) (old mid new : S) (e : Fault) → g.mini mid ≡ g.mini old → (g.tells → g.contents mid ≡ g.contents old) → StaysAtLack {T = A} g mid new (Err e) → StaysAtLack {T = B} g old new (Err e)
-lacks_on g old mid new (Store fault) mini contents stays = tt
-lacks_on g old mid new Memory mini contents stays = (stays.0 ∙ mini, λ tells. stays.1 tells ∙ contents tells)
+pub lacks_on : {S : Type 0} (A B : Type 0) (g : Ghosts S) (old mid new : S) (e : Fault) → g.mini mid ≡ g.mini old → (g.tells → g.contents mid ≡ g.contents old) → StaysAtLack {T = A} g mid new (Err e) → StaysAtLack {T = B} g old new (Err e)
+lacks_on A B g old mid new (Store fault) mini contents stays = tt
+lacks_on A B g old mid new Memory mini contents stays = (stays.0 ∙ mini, λ tells. stays.1 tells ∙ contents tells)
 
 fails_on : {S A B : Type 0} (g : Ghosts S) (old mid new : S) (e : Fault) → ContinuesOrLacks {T = ⊤} g old mid so_far → ContinuesOrLacks {T = A} g mid new (Err e) → ContinuesOrLacks {T = B} g old new (Err e)
 fails_on g old mid new (Store Disk) first second = search rules
@@ -51,7 +51,7 @@ reads_on {A = A} {B = B} g old mid new e r is kept mini contents w = subst (λ (
   kept = fails_on {A = A} {B = B} g old mid new e kept w.kept;
   contents = λ tells. tt;
   mini = tt;
-  lacks = lacks_on {A = A} {B = B} g old mid new e mini contents w.lacks;
+  lacks = lacks_on A B g old mid new e mini contents w.lacks;
   names = subst (λ (s : FileShape). NamesTreeOrLacks s.pages e) kept.keeps.same_shape w.names;
 })
 

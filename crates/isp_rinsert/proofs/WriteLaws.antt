@@ -40,7 +40,7 @@ has_item (x ∷ xs) (suc i) d inside = inr (has_item xs i d (omega (arith, insid
 
 -- ---- each page is written once
 
-has_number : (list : List Settled) (w : Settled) → Has list w → 0 < times w.page.0 (written_numbers list)
+pub has_number : (list : List Settled) (w : Settled) → Has list w → 0 < times w.page.0 (written_numbers list)
 has_number [] w h = absurd h
 has_number (x ∷ list) w (inl same) =
     let e : (x.page.0 == w.page.0) ≡ true = eq-eqb x.page.0 w.page.0 (ap (λ (z : Settled). z.page.0) same) in
@@ -79,11 +79,14 @@ written_apart list i d v inside once has = by ((get_or list i d).page.0 == v.pag
         let one : ◌≡◌ {A = ℕ} (cond (w.page.0 == v.page.0) 1 0) 1 = ap (λ (b : Bool). let n : ℕ = cond b 1 0 in n) is in
         absurd (omega (arith, has_number (take i list) v has, all, sum, one, once v.page.0))
 
-pub written_next : (owner : ℕ) (old new : Contents) (list : List Settled) (i : ℕ) (d : Settled) → i < length list → ((x : ℕ) → times x (written_numbers list) ≤ 1)
-    → KeepsPages (λ p. is_among p ((get_or list i d).page.0 ∷ [])) old new → IsWritten owner new (get_or list i d) → AreWritten owner old (take i list) → AreWritten owner new (take (i + 1) list)
-written_next owner old new list i d inside once keeps last all =
-    all_next (IsWritten owner new) list i d inside
-    (λ v has. subst (λ (bytes : List ℕ). IsNode owner v.page.0 (node_with v.head v.entries.items) bytes) (sym (keeps v.page.0 (written_apart list i d v inside once has))) (all v has)) last
+pub written_next : (owner : ℕ) (old new : Contents) (list : List Settled) (i : ℕ) (w : Settled) → w ≡ get_or list i w → i < length list → ((x : ℕ) → times x (written_numbers list) ≤ 1)
+    → KeepsPages (λ p. is_among p (w.page.0 ∷ [])) old new → IsWritten owner new w → AreWritten owner old (take i list) → AreWritten owner new (take (i + 1) list)
+written_next owner old new list i w is inside once keeps last all =
+    all_next (IsWritten owner new) list i w inside
+    (λ v has. subst (λ (bytes : List ℕ). IsNode owner v.page.0 (node_with v.head v.entries.items) bytes) (sym (keeps v.page.0 (ap (λ (z : Settled). is_among v.page.0 (z.page.0 ∷ [])) is ∙ written_apart list i w v inside once has))) (all v has)) (subst (IsWritten owner new) is last)
+
+pub item_of : {X : Type 0} (xs : List X) (i : ℕ) (x : X) → x ≡ get_or xs i x → i < length xs → Has xs x
+item_of xs i x is inside = subst (Has xs) (sym is) (has_item xs i x inside)
 
 pub written_all : (owner : ℕ) (now : Contents) (list : List Settled) (i : ℕ) → length list ≤ i → AreWritten owner now (take i list) → AreWritten owner now list
 written_all owner now list i end all = subst (λ (l : List Settled). AreWritten owner now l) (take_all i list end) all

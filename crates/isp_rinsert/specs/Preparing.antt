@@ -2,6 +2,8 @@
 use Rattle.std.specs.Prelude.{◌≡◌, ℕ, ◌<◌, ◌≤◌, List, [], length, map, reverse, vec_capacity}
 use Rattle.isp_base.specs.Lists.{Has}
 use Rattle.isp_base.specs.declared.page_no.PageNo.{PageNo}
+use Rattle.isp_format.specs.Control.{IsFanout}
+use Rattle.isp_mbr.specs.Boxes.{IsBox}
 use Rattle.isp_mbr.specs.Corners.{Corners}
 use Rattle.isp_space.specs.Spaces.{most_counted}
 use Rattle.isp_forest.specs.Tree.{Tree, counter}
@@ -49,6 +51,8 @@ pub record IsReady (pages : ℕ) (path : List ℕ) (w : Prepared) : Type 0 where
 pub record IsPrepared (fanout owner : ℕ) (tree : Tree) (path : List ℕ) (b : Corners) (w : Prepared) : Type 0 where
   pub owner_is : w.owner ≡ owner
   pub counter_is : w.counter ≡ counter tree
+  pub fan : IsFanout fanout
+  pub box : IsBox b
   pub pages : List PathPage
   pub are : ArePathPages tree path pages
   pub plan : IsPlan fanout b (reverse pages) (Added b) (reverse w.steps.items)

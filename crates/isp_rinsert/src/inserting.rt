@@ -89,6 +89,7 @@ fn apply<P: Pages>(pages: &mut P, work: Prepared, key: i64) -> Result<Changes, S
         mut news,
         room,
     } = work;
+    law_settles();
     let number = draw_number(pages)?;
     let count = pages_needed(steps.as_slice());
     take_pages(pages, count, &mut news)?;
@@ -99,7 +100,6 @@ fn apply<P: Pages>(pages: &mut P, work: Prepared, key: i64) -> Result<Changes, S
         parted,
     } = settle(steps, news.as_slice(), counter, to, room);
     write_all(pages, owner, writes.as_slice())?;
-    law_settles();
     Ok(Changes {
         number,
         growths,

@@ -1,7 +1,7 @@
 //! An insert is planned.
 ghost use Rattle.std.specs.Prelude.{◌≡◌, ◌<◌, ◌≤◌, ℕ, List, length, reverse, true, IfErr, IfOk};
 ghost use Rattle.isp_format.specs.Control.{IsFanout};
-ghost use Rattle.isp_mbr.specs.Corners.{Corners};
+ghost use Rattle.isp_mbr.specs.Boxes.{IsBox};
 ghost use Rattle.isp_page.specs.Steps.{IsNoDamageOrLacks};
 ghost use Rattle.isp_space.specs.Spaces.{most_counted};
 ghost use Rattle.isp_forest.specs.Place.{Stands};
@@ -15,7 +15,7 @@ ghost use Rattle.isp_rinsert.specs.Preparing.{IsPrepared, IsReady, IsWay};
 
 use crate::way::{Way, read_way};
 use isp_format::PageNo;
-use isp_mbr::Box4;
+use isp_mbr::{Box4, area};
 use isp_page::{Fault, Pages};
 use isp_rplan::{Planned, plan};
 use isp_rsettle::Room;
@@ -79,7 +79,9 @@ fn planned(
     ensures owner { IfOk result (λ w. w.owner ≡ way.owner) }
     ensures counter { IfOk result (λ w. w.counter ≡ way.counter) }
     ensures growths { IfOk result (λ w. w.growths.items ≡ growths.items) }
+    ensures ordered { IsBox b.now }
 {
+    let _area = area(b);
     let Way {
         owner,
         counter,

@@ -40,10 +40,3 @@ loop-page-preserved g c =
 pub returns-clause-taken : goal.returns-clause-taken
 returns-clause-taken g c tells s is free =
     taking_all g.P.Pages c.args.count c.loop-page._page s c.loop-page.news.items c.args.pages.now c.loop-page.pages c.loop-page-test.false (c.loop-page.invariant.taken tells s is free)
-
-pub returns-in_err-p-clause-sound : goal.returns-in_err-p-clause-sound
-returns-in_err-p-clause-sound g c tells s is free =
-    let t = c.loop-page.invariant.taken tells s is free in
-    let some = some_free g.P.Pages c.args.count c.loop-page._page s c.loop-page.news.items c.args.pages.now c.loop-page.pages c.loop-page-test.true t in
-    let sound = c.in_err-p.ensures.sound tells t.at t.is_space some in
-    search (rules, sound, c.from_residual.ensures)

@@ -30,7 +30,7 @@ pub returns-in_err-p-clause-reads : goal.returns-in_err-p-clause-reads
 returns-in_err-p-clause-reads g c =
     let inv = c.loop-next.invariant in
     let p = err_from_is_err_and c.from_residual.result c.from_residual.ensures.1 in
-    reads_on g.P.Pages c.args.pages.now c.loop-next.pages c.read_next.new.pages c.in_err-p.field-0 c.from_residual.result (p.1 ∙ ap Err p.2) inv.kept inv.mini inv.contents c.in_err-p.ensures.reads
+    reads_on g.P.Pages c.args.pages.now c.loop-next.pages c.read_next.new.pages c.in_err-p.field-0.0 c.from_residual.result (p.1 ∙ ap Err p.2) inv.kept inv.mini inv.contents c.in_err-p.ensures.reads
 
 pub returns-in_err-p-clause-sound : goal.returns-in_err-p-clause-sound
 returns-in_err-p-clause-sound g c tells tree at leads =
