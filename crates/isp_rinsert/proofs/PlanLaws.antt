@@ -3,6 +3,7 @@ use Rattle.std.proofs.Common.{inl, inr, ◌≡◌, ℕ, suc, ◌+◌, ◌<◌, �
 use Rattle.std.specs.Prelude.{vec_capacity}
 use Rattle.std.proofs.lemmas.List.{length-map, map-append, reverse-append, reverse-reverse}
 use Rattle.isp_base.specs.Lists.{Has}
+use Rattle.isp_base.specs.declared.page_no.PageNo.{PageNo}
 use Rattle.isp_format.specs.Control.{IsFanout}
 use Rattle.isp_mbr.specs.Corners.{Corners}
 use Rattle.isp_forest.specs.declared.entry.Entry.{Entry}
@@ -11,6 +12,7 @@ use Rattle.isp_rplan.proofs.KnownLaws.{parts_of}
 use Rattle.isp_rplan.specs.Plans.{AreParted, IsPlan, carry_of, moves_of}
 use Rattle.isp_rplan.specs.declared.steps.Carry.{Carry}
 use Rattle.isp_rplan.specs.declared.steps.Carry.TheVariants.{Added}
+use Rattle.isp_rplan.specs.declared.steps.NodeHead.{NodeHead}
 use Rattle.isp_rplan.specs.declared.steps.PathPage.{PathPage}
 use Rattle.isp_rplan.specs.declared.steps.Planned.{Planned}
 use Rattle.isp_rsettle.specs.Placed.{path_number}
@@ -24,15 +26,15 @@ use Rattle.isp_rinsert.specs.declared.way.Way.{Way}
 -- ---- lists the other way round
 
 pub map_reverse : {X Y : Type 0} (f : X → Y) (xs : List X) → map f (reverse xs) ≡ reverse (map f xs)
-map_reverse f [] = refl
-map_reverse f (x ∷ xs) =
+map_reverse {X = X} {Y = Y} f [] = refl
+map_reverse {X = X} {Y = Y} f (x ∷ xs) =
     ap (map f) (reverse-append (x ∷ []) xs)
     ∙ map-append f (reverse xs) (x ∷ [])
-    ∙ ap (λ l. l ++ f x ∷ []) (map_reverse f xs)
+    ∙ ap (λ (l : List Y). l ++ f x ∷ []) (map_reverse f xs)
     ∙ sym (reverse-append (f x ∷ []) (map f xs))
 
 pub has_reverse : {X : Type 0} (xs : List X) (x : X) → Has xs x → Has (reverse xs) x
-has_reverse [] x h = absurd h
+has_reverse {X = X} [] x h = absurd h
 has_reverse {X = X} (z ∷ xs) x (inl same) = subst (λ (l : List X). Has l x) (sym (reverse-append (z ∷ []) xs)) (Has-append_right (reverse xs) (z ∷ []) x (inl same))
 has_reverse {X = X} (z ∷ xs) x (inr more) = subst (λ (l : List X). Has l x) (sym (reverse-append (z ∷ []) xs)) (Has-append_left (reverse xs) (z ∷ []) x (has_reverse xs x more))
 
@@ -45,7 +47,7 @@ plan_numbers : (fanout : ℕ) (b : Corners) (pages : List PathPage) (carry : Car
 plan_numbers fanout b [] carry steps plan = ap (map step_number) plan
 plan_numbers fanout b (p ∷ pages) carry [] plan = absurd plan
 plan_numbers fanout b (p ∷ pages) carry (s ∷ steps) plan =
-    ap (λ q. q.0 ∷ map step_number steps) plan.0.page_is
+    ap (λ (q : PageNo). q.0 ∷ map step_number steps) plan.0.page_is
     ∙ ap (λ (l : List ℕ). p.page.0 ∷ l) (plan_numbers fanout b pages (carry_of b s) steps plan.1)
 
 -- what is made of one of the pages
@@ -88,8 +90,8 @@ ready_of pages path fanout b way w fan is plan counter room none news =
     record {
       path_is = numbers ∙ is.numbers;
       few = omega (arith, long, few);
-      inside = λ s h. (let f = from s h in subst (λ q. q.0 < pages) (sym f.page_is) (is.inside f.p (has_reversed all f.p f.has)));
-      low = λ s h. (let f = from s h in let low = is.low f.p (has_reversed all f.p f.has) in subst (λ h'. h'.level < 255) (sym f.head_is) (omega (arith, low)));
+      inside = λ s h. (let f = from s h in subst (λ (q : PageNo). q.0 < pages) (sym f.page_is) (is.inside f.p (has_reversed all f.p f.has)));
+      low = λ s h. (let f = from s h in let low = is.low f.p (has_reversed all f.p f.has) in subst (λ (n : NodeHead). n.level < 255) (sym f.head_is) (omega (arith, low)));
       some = λ s h. plan_some fanout fan b (reverse all) (Added b) (reverse steps) plan s (has_reverse steps s h);
       counter = counter;
       room = subst (λ (n : ℕ). HasRoomFor n w.room) (sym long) room;
