@@ -46,7 +46,7 @@ apart_from x y news once there = by (x == y) refl
     by false is = refl
     by true is = let one : ◌≡◌ {A = ℕ} (cond (x == y) 1 0) 1 = ap (λ (b : Bool). let k : ℕ = cond b 1 0 in k) is in absurd (omega (arith, once, there, one))
 
-some_page : (tree : Tree) (n : PageNo) (rest : List PageNo) → AreNew tree (n ∷ rest) → (n.0 == 0) ≡ false
+pub some_page : (tree : Tree) (n : PageNo) (rest : List PageNo) → AreNew tree (n ∷ rest) → (n.0 == 0) ≡ false
 some_page tree n rest new = by (n.0 == 0) refl
   where
     by : (b : Bool) → (n.0 == 0) ≡ b → b ≡ false
@@ -56,12 +56,12 @@ some_page tree n rest new = by (n.0 == 0) refl
         let once : 1 + (cond (n.0 == 0) 1 0 + times 0 (map number_of rest)) ≤ 1 = new.once 0 in
         absurd (omega (arith, once, one))
 
-others_differ : (tree : Tree) (n : PageNo) (rest : List PageNo) → AreNew tree (n ∷ rest) → (x : PageNo) → Has rest x → (n.0 == x.0) ≡ false
+pub others_differ : (tree : Tree) (n : PageNo) (rest : List PageNo) → AreNew tree (n ∷ rest) → (x : PageNo) → Has rest x → (n.0 == x.0) ≡ false
 others_differ tree n rest new x h =
     let once = new.once x.0 in
     apart_from n.0 x.0 rest (omega (arith, once)) (counted x rest h)
 
-fewer_new : (q n : ℕ) (rest : List ℕ) → times q (0 ∷ n ∷ rest) ≤ 1 → times q (0 ∷ rest) ≤ 1
+pub fewer_new : (q n : ℕ) (rest : List ℕ) → times q (0 ∷ n ∷ rest) ≤ 1 → times q (0 ∷ rest) ≤ 1
 fewer_new q n rest once = omega (arith, once)
 
 -- ---- no page is divided above one that stays whole
@@ -69,14 +69,14 @@ fewer_new q n rest once = omega (arith, once)
 abbrev AreFew : ℕ → List PathPage → Type 0
 AreFew fanout pages = (p : PathPage) → Has pages p → length p.entries.items ≤ fanout
 
-stays_whole : (fanout : ℕ) (page : PathPage) (child : PageNo) (b : Corners) (s : Planned) → length page.entries.items ≤ fanout → IsPlanned fanout page (Grown child b) s → moves_of s ≡ None
+pub stays_whole : (fanout : ℕ) (page : PathPage) (child : PageNo) (b : Corners) (s : Planned) → length page.entries.items ≤ fanout → IsPlanned fanout page (Grown child b) s → moves_of s ≡ None
 stays_whole fanout page child b s few is = by (moves_of s) is.parts
   where
     by : (m : Option (List Entry)) → AreParted fanout (map (widened (child.0 ∷ []) b) page.entries.items) s.stays.items m → m ≡ None
     by None w = refl
     by (Some moves) d = let long = length-map page.entries.items (widened (child.0 ∷ []) b) in absurd (omega (arith, d.over, long, few))
 
-none_above : (fanout : ℕ) (b : Corners) (to : To) (s : Planned) (pages : List PathPage) (steps : List Planned) (news : List PageNo) → AreFew fanout pages → moves_of s ≡ None → IsPlan fanout b pages (carry_of b s) steps → divisions to (s ∷ steps) news ≡ []
+pub none_above : (fanout : ℕ) (b : Corners) (to : To) (s : Planned) (pages : List PathPage) (steps : List Planned) (news : List PageNo) → AreFew fanout pages → moves_of s ≡ None → IsPlan fanout b pages (carry_of b s) steps → divisions to (s ∷ steps) news ≡ []
 none_above fanout b to s pages [] news few none plan = ap (λ (m : Option (List Entry)). division_root to s m news) none
 none_above fanout b to s [] (next ∷ steps) news few none plan = absurd (let no : ◌≡◌ {A = List Planned} (next ∷ steps) [] = plan in cc)
 none_above fanout b to s (p ∷ pages) (next ∷ steps) news few none plan =
@@ -197,7 +197,7 @@ plan_due fanout fan b page (next ∷ pages) (s ∷ t ∷ steps) few tree forest 
 
 -- ---- the whole path
 
-Has-reverse : {X : Type 0} (xs : List X) (x : X) → Has (reverse xs) x → Has xs x
+pub Has-reverse : {X : Type 0} (xs : List X) (x : X) → Has (reverse xs) x → Has xs x
 Has-reverse [] x h = h
 Has-reverse (y ∷ xs) x h = by (Has-append (reverse xs) (y ∷ []) x (subst (λ (l : List _). Has l x) (reverse-append (y ∷ []) xs) h)) (Has-reverse xs x)
   where

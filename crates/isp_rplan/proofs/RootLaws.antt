@@ -34,7 +34,7 @@ raised_other tree forest q x a b =
     ap (λ (t : Tree). page_at t x) (made tree q forest.top forest.rooted)
     ∙ page_in-put_other tree.root x (lifted forest.top q) _ b ∙ page_in-put_other q x (moved forest.top) tree.pages a
 
-raised_counter : (tree : Tree) (forest : Forest tree) (q : ℕ) → counter (raise tree q) ≡ counter tree
+pub raised_counter : (tree : Tree) (forest : Forest tree) (q : ℕ) → counter (raise tree q) ≡ counter tree
 raised_counter tree forest q =
     ap (λ (r : ℕ). ssn_at (page_at (raise tree q) r)) (raised_is tree forest q) ∙ ap ssn_at (raised_root tree forest q) ∙ sym (counter_is tree forest)
   where

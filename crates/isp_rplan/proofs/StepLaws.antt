@@ -54,7 +54,7 @@ has_number (x ∷ pages) p (inl same) = let e : (x.page.0 == p.page.0) ≡ true 
 has_number (x ∷ pages) p (inr h) = let h' = has_number pages p h in omega (arith, h')
 
 -- a page above isn't the one at hand
-other_page : (q : ℕ) (pages : List PathPage) (p : PathPage) → ((n : ℕ) → times n (q ∷ page_numbers pages) ≤ 1) → Has pages p → (q == p.page.0) ≡ false
+pub other_page : (q : ℕ) (pages : List PathPage) (p : PathPage) → ((n : ℕ) → times n (q ∷ page_numbers pages) ≤ 1) → Has pages p → (q == p.page.0) ≡ false
 other_page q pages p once has = by (q == p.page.0) refl
   where
     by : (b : Bool) → (q == p.page.0) ≡ b → b ≡ false

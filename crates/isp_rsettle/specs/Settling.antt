@@ -9,7 +9,7 @@ use Rattle.isp_forest.specs.declared.entry.To.{To}
 use Rattle.isp_forest.specs.Steps.{entry_for}
 use Rattle.isp_forest.specs.Tree.{Node, least}
 use Rattle.isp_rnode.specs.Nodes.{link_of}
-use Rattle.isp_rplan.specs.Divisions.{known_after, news_after, stays_of}
+use Rattle.isp_rplan.specs.Divisions.{known_after, needs, news_after, stays_of}
 use Rattle.isp_rplan.specs.Plans.{known, moves_of}
 use Rattle.isp_rplan.specs.declared.steps.Moves.{Moves}
 use Rattle.isp_rplan.specs.declared.steps.NodeHead.{NodeHead}
@@ -81,6 +81,11 @@ settled counter to (s ∷ []) news = settled_root counter to s (moves_of s) news
 settled counter to (s ∷ next ∷ steps) news =
     settled_page counter to s (moves_of s) news
     ++ settled (counter_after counter (moves_of s)) (known_after to (moves_of s) news) (next ∷ steps) (news_after (moves_of s) news)
+
+-- how many pages the root needs in addition, where the steps are given from the root down
+abbrev pub root_needs : List Planned → ℕ
+root_needs [] = 0
+root_needs (root ∷ steps) = needs (moves_of root)
 
 -- ---- what was divided, as a call tells it
 

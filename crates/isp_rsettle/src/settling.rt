@@ -4,7 +4,7 @@ ghost use Rattle.isp_forest.specs.Steps.{entry_for};
 ghost use Rattle.isp_forest.specs.Tree.{least};
 ghost use Rattle.isp_rplan.specs.Divisions.{known_after, needs, news_after, pages_needed};
 ghost use Rattle.isp_rplan.specs.Plans.{known, moves_of};
-ghost use Rattle.isp_rsettle.specs.Settling.{AreLow, AreSome, HasRoomFor, HaveSome, counter_after, nodes_of, number_limit, part_page, part_root, parts, raised, raised_root, settled, settled_page, settled_root};
+ghost use Rattle.isp_rsettle.specs.Settling.{AreLow, AreSome, HasRoomFor, HaveSome, counter_after, nodes_of, number_limit, part_page, part_root, parts, raised, raised_root, root_needs, settled, settled_page, settled_root};
 
 use crate::outcome::{Outcome, Parted, Raised, Room, Settled};
 use isp_base::PageNo;
@@ -16,13 +16,28 @@ pub fn pages_needed(steps: &[Planned]) -> usize
     requires { length steps.now ≤ 17 }
     ensures { result ≡ pages_needed (reverse steps.now) }
 {
-    let mut count = 0;
-    for (i, step) in steps.iter().enumerate() {
-        if step.moves.is_some() {
-            count += if i == 0 { 2 } else { 1 };
-        }
+    let mut count = needed_by_root(steps);
+    for step in steps {
+        count += needed(step);
     }
     count
+}
+
+// How many pages the first step needs in addition, since it is the root's.
+fn needed_by_root(steps: &[Planned]) -> usize
+    ensures { result ≡ root_needs steps.now }
+{
+    match steps.first() {
+        Some(root) => needed(root),
+        None => 0,
+    }
+}
+
+// How many pages a step needs.
+fn needed(step: &Planned) -> usize
+    ensures { result ≡ needs (moves_of step.now) }
+{
+    if step.moves.is_some() { 1 } else { 0 }
 }
 
 /// What becomes of a plan, which is given from the root down, once the new entry's number and its new pages are known: these in
@@ -55,18 +70,20 @@ pub fn settle(
         to,
         taken: 0,
     };
-    'up: while steps.len() > 1 {
-        if let Some(step) = steps.pop() {
-            at = settle_page(step, news, at, &mut writes, &mut parted);
+    'up: while let Some(step) = steps.pop() {
+        if steps.is_empty() {
+            let raised = settle_root(step, news, at, root, &mut writes, &mut parted);
+            return Outcome {
+                writes,
+                raised,
+                parted,
+            };
         }
+        at = settle_page(step, news, at, &mut writes, &mut parted);
     }
-    let raised = match steps.pop() {
-        Some(step) => settle_root(step, news, at, root, &mut writes, &mut parted),
-        None => None,
-    };
     Outcome {
         writes,
-        raised,
+        raised: None,
         parted,
     }
 }

@@ -1,0 +1,5 @@
+mod NeedLaws
+mod PartLaws
+mod RiseLaws
+pub mod SettleLaws
+mod WayLaws
