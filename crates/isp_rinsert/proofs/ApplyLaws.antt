@@ -1,9 +1,12 @@
 -- A plan is carried out.
-use Rattle.std.proofs.Common.{◌≡◌, ℕ, ℤ, ◌+◌, ◌≤◌, List, length, reverse, refl, sym, ◌∙◌, ap, subst, arith}
+use Rattle.std.proofs.Common.{rules, ◌≡◌, ℕ, ℤ, ◌+◌, ◌≤◌, List, length, reverse, refl, sym, ◌∙◌, ap, subst, arith}
+use Rattle.std.specs.Prelude.{Err, Ok, Result}
 use Rattle.std.proofs.lemmas.List.{length-reverse}
 use Rattle.isp_base.specs.declared.page_no.PageNo.{PageNo}
 use Rattle.isp_mbr.specs.Corners.{Corners}
-use Rattle.isp_page.specs.State.{FileShape}
+use Rattle.isp_page.specs.Calls.{Continued, Continues}
+use Rattle.isp_page.specs.declared.fault.StoreFault.{StoreFault}
+use Rattle.isp_page.specs.declared.fault.StoreFault.TheVariants.{Damaged, Disk, Print}
 use Rattle.isp_page.specs.declared.pages.Pages.{Ghosts}
 use Rattle.isp_space.specs.Spaces.{Space, free_pages}
 use Rattle.isp_forest.specs.declared.entry.To.{To}
@@ -48,3 +51,17 @@ took_of g old mid at owner root tree s path b w news count can prepared shape_mi
   count = long ∙ is;
   taken = subst (λ (n : ℕ). AreTaken g n (drawn s) news mid at) (sym long) taken;
 }
+
+-- ---- a fault behind calls that went well
+
+pub began : {S : Type 0} (T : Type 0) (g : Ghosts S) (old mid : S) (x : T) → Continues {T = T} g old mid (Ok x) → Continued g old mid
+began T g old mid x first = search rules
+
+failed : {S : Type 0} (A B : Type 0) (g : Ghosts S) (old mid new : S) (e : StoreFault) → Continued g old mid → Continues {T = A} g mid new (Err e) → Continues {T = B} g old new (Err e)
+failed A B g old mid new Disk first second = search rules
+failed A B g old mid new Print first second = search rules
+failed A B g old mid new (Damaged page rule) first second = search rules
+
+pub fails_behind : {S : Type 0} (A B : Type 0) (g : Ghosts S) (old mid new : S) (e found : StoreFault) (r : Result B StoreFault) → r ≡ Err found → found ≡ e → Continued g old mid → Continues {T = A} g mid new (Err e) → Continues {T = B} g old new r
+fails_behind A B g old mid new e found r is same first second =
+    subst (λ (x : Result B StoreFault). Continues {T = B} g old new x) (ap Err (sym same) ∙ sym is) (failed A B g old mid new e first second)

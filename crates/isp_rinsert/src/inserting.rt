@@ -17,7 +17,7 @@ use isp_format::PageNo;
 use isp_forest::To;
 use isp_mbr::Box4;
 use isp_page::{Fault, Pages, StoreFault};
-use isp_rsettle::{Outcome, Parted, Raised, law_settles, pages_needed, settle};
+use isp_rsettle::{Outcome, Parted, Raised, pages_needed, settle};
 use isp_rtree::Growth;
 use isp_space::draw_number;
 use std::alloc::Global;
@@ -89,7 +89,6 @@ fn apply<P: Pages>(pages: &mut P, work: Prepared, key: i64) -> Result<Changes, S
         mut news,
         room,
     } = work;
-    law_settles();
     let number = draw_number(pages)?;
     let count = pages_needed(steps.as_slice());
     take_pages(pages, count, &mut news)?;

@@ -1,7 +1,8 @@
 //! Entries that are put in: a root that is raised, a leaf that is divided, and what is told of both.
 ghost use Rattle.std.specs.Prelude.{◌≡◌, ◌<◌, true, OnOk};
-ghost use Rattle.isp_page.specs.Calls.{ContinuesOrLacks};
 ghost use Rattle.isp_page.specs.State.{none_begun};
+ghost use Rattle.isp_rinsert.specs.Calls.{InsertsInto, most_inserted};
+ghost use Rattle.isp_space.specs.Changes.{MayChange};
 
 use crate::making::{Leaf, OWNER, Spot, box_of};
 use crate::seen::sees_all;
@@ -12,33 +13,54 @@ use isp_rinsert::{Changes, Growth, Parted, Raised, insert};
 use isp_rtree::create;
 use std::alloc::Global;
 
-/// Where a point is put, and the leaf at the end of its path.
+/// Where a point is put, its key, and the leaf at the end of its path.
 #[derive(Clone, Copy)]
 struct Put {
     at: [i32; 2],
+    key: i64,
     leaf: u32,
 }
 
-/// Five points on a root that is a leaf, and three more on one of its two leaves then. Their keys are 0 and so on.
+/// Five points on a root that is a leaf, and three more on one of its two leaves then.
 static PUTS: [Put; 8] = [
-    Put { at: [0, 0], leaf: 16 },
-    Put { at: [1, 1], leaf: 16 },
+    Put {
+        at: [0, 0],
+        key: 0,
+        leaf: 16,
+    },
+    Put {
+        at: [1, 1],
+        key: 1,
+        leaf: 16,
+    },
     Put {
         at: [10, 10],
+        key: 2,
         leaf: 16,
     },
     Put {
         at: [11, 11],
+        key: 3,
         leaf: 16,
     },
-    Put { at: [2, 2], leaf: 16 },
-    Put { at: [9, 9], leaf: 18 },
+    Put {
+        at: [2, 2],
+        key: 4,
+        leaf: 16,
+    },
+    Put {
+        at: [9, 9],
+        key: 5,
+        leaf: 18,
+    },
     Put {
         at: [12, 12],
+        key: 6,
         leaf: 18,
     },
     Put {
         at: [13, 13],
+        key: 7,
         leaf: 18,
     },
 ];
@@ -140,14 +162,27 @@ fn make<P: Pages>(pages: &mut P) -> Result<(), StoreFault>
     Ok(())
 }
 
-// Puts a point of that key in.
-fn put<P: Pages>(
+// Puts an entry in, at the end of the path to that leaf.
+fn put_in<P: Pages>(
     alloc: Global,
     pages: &mut P,
     leaf: u32,
     b: &Box4,
     key: i64,
 ) -> Result<Changes, Fault>
+    requires can { MayChange P.Pages most_inserted pages.old }
+    requires root { 16 < (P.shape pages.old).pages }
+    ensures changes { InsertsInto P.Pages pages.old pages.new result }
+{
+    if leaf == 16 {
+        insert(alloc, pages, &[PageNo(16)], b, key)
+    } else {
+        insert(alloc, pages, &[PageNo(16), PageNo(leaf)], b, key)
+    }
+}
+
+// The same in a mini-transaction of its own.
+fn put<P: Pages>(alloc: Global, pages: &mut P, p: Put) -> Result<Option<Changes>, Fault>
     requires usable { P.usable pages.old ≡ true }
     requires none { P.mini pages.old ≡ none_begun }
     requires root { 16 < (P.shape pages.old).pages }
@@ -155,37 +190,28 @@ fn put<P: Pages>(
     ensures none { OnOk result (P.mini pages.new ≡ none_begun) }
     ensures shape { OnOk result (P.shape pages.new ≡ P.shape pages.old) }
 {
+    let Some(b) = box_of([p.at[0], p.at[1], p.at[0], p.at[1]]) else {
+        return Ok(None);
+    };
     pages.begin();
-    let both = [PageNo(16), PageNo(leaf)];
-    let count = if leaf == 16 { 1 } else { 2 };
-    let changes = insert(alloc, pages, &both[..count], b, key)?;
+    let changes = put_in(alloc, pages, p.leaf, &b, p.key)?;
     pages.finish()?;
-    Ok(changes)
+    Ok(Some(changes))
 }
 
-// Puts so many of the points in, and answers what the last one changed.
-fn put_points<P: Pages>(
-    alloc: Global,
-    pages: &mut P,
-    puts: &[Put],
-    last: &Put,
-) -> Result<Option<Changes>, Fault>
+// Puts these points in.
+fn put_all<P: Pages>(alloc: Global, pages: &mut P, puts: &[Put]) -> Result<(), Fault>
     requires usable { P.usable pages.old ≡ true }
     requires none { P.mini pages.old ≡ none_begun }
     requires root { 16 < (P.shape pages.old).pages }
     ensures usable { OnOk result (P.usable pages.new ≡ true) }
+    ensures none { OnOk result (P.mini pages.new ≡ none_begun) }
     ensures shape { OnOk result (P.shape pages.new ≡ P.shape pages.old) }
 {
-    for (i, p) in puts.iter().enumerate() {
-        if let Some(b) = box_of([p.at[0], p.at[1], p.at[0], p.at[1]]) {
-            let _changes = put(alloc, pages, p.leaf, &b, i as i64)?;
-        }
+    for p in puts {
+        let _changes = put(alloc, pages, *p)?;
     }
-    if let Some(b) = box_of([last.at[0], last.at[1], last.at[0], last.at[1]]) {
-        let changes = put(alloc, pages, last.leaf, &b, puts.len() as i64)?;
-        return Ok(Some(changes));
-    }
-    Ok(None)
+    Ok(())
 }
 
 // Whether the changes are those of the fifth point, which raises the root.
@@ -245,4 +271,38 @@ fn is_divided(changes: &Changes) -> bool {
         && changes.growths.as_slice() == &[growth]
         && changes.raised.is_none()
         && changes.divisions.as_slice() == &[parted]
+}
+
+fn raises_the_root(alloc: Global) -> Result<bool, Fault> {
+    let mut pages = MemPages::new(alloc, 128, 4, 0)?;
+    make(&mut pages)?;
+    put_all(alloc, &mut pages, &PUTS[..4])?;
+    let told = put(alloc, &mut pages, PUTS[4])?;
+    let seen = sees_all(alloc, &mut pages, PageNo(16), &RAISED, 1)?;
+    match told {
+        Some(changes) => Ok(seen && is_raised(&changes)),
+        None => Ok(false),
+    }
+}
+
+#[test]
+fn a_full_root_is_raised_and_divided(rt: HostRuntime) {
+    assert!(rt; raises_the_root(rt.alloc()) == Ok(true));
+}
+
+fn divides_a_leaf(alloc: Global) -> Result<bool, Fault> {
+    let mut pages = MemPages::new(alloc, 128, 4, 0)?;
+    make(&mut pages)?;
+    put_all(alloc, &mut pages, &PUTS[..7])?;
+    let told = put(alloc, &mut pages, PUTS[7])?;
+    let seen = sees_all(alloc, &mut pages, PageNo(16), &DIVIDED, 2)?;
+    match told {
+        Some(changes) => Ok(seen && is_divided(&changes)),
+        None => Ok(false),
+    }
+}
+
+#[test]
+fn a_full_leaf_is_divided(rt: HostRuntime) {
+    assert!(rt; divides_a_leaf(rt.alloc()) == Ok(true));
 }

@@ -6,6 +6,8 @@
 #![tactic(auto)]
 
 #[cfg(test)]
+mod inserting;
+#[cfg(test)]
 mod making;
 #[cfg(test)]
 mod removing;

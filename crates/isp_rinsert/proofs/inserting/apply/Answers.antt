@@ -4,10 +4,12 @@ use Rattle.std.proofs.lemmas.Result.{err_from_is_err_and}
 use Rattle.isp_base.specs.declared.page_no.PageNo.{PageNo}
 use Rattle.isp_growing.proofs.MiniLaws.{err_is}
 use Rattle.isp_page.specs.State.{FileShape}
+use Rattle.isp_page.specs.Steps.{IsNoDamage}
 use Rattle.isp_page.specs.Touched.{AreAmong}
 use Rattle.isp_space.specs.Changes.{ChangesOf}
 use Rattle.isp_rplan.specs.Divisions.{pages_needed}
 use Rattle.isp_rplan.specs.declared.steps.Planned.{Planned}
+use Rattle.isp_rsettle.proofs.SettleLaws.{settles}
 use Rattle.isp_rsettle.specs.Placed.{settled_pages}
 use Rattle.isp_rsettle.specs.Settling.{nodes_of, parts, raised}
 use Rattle.isp_rsettle.specs.declared.outcome.Settled.{Settled}
@@ -15,10 +17,11 @@ use Rattle.isp_rtree.specs.Calls.{NamesTree}
 use Rattle.isp_rinsert.specs.Applying.{AreWritten, numbers_of, written_numbers}
 use Rattle.isp_rinsert.specs.Calls.{NamesInsert}
 use Rattle.isp_rinsert.specs.Inserting.{drawn}
-use Rattle.isp_rinsert.proofs.ApplyLaws.{few_needed, free_left, needed_is, nodes_are, nodes_settled, took_of}
+use Rattle.isp_rinsert.proofs.ApplyLaws.{began, fails_behind, few_needed, free_left, needed_is, nodes_are, nodes_settled, took_of}
 use Rattle.isp_rinsert.proofs.ChangeLaws.{draws_of, room_left, taken_within, written_within}
 use Rattle.isp_rinsert.proofs.InsertLaws.{Took, fits_of, inserted, steps_of, written_once}
 use Rattle.isp_rinsert.proofs.SettledLaws.{inside_any, taken_among, written_few}
+use Rattle.isp_rinsert.proofs.TakeLaws.{one_more}
 use Rattle.isp_rinsert.proofs.inserting.apply.Goals as goal
 
 pub take_pages-requires-clause-few : goal.take_pages-requires-clause-few
@@ -77,8 +80,11 @@ returns-in_err-write_all-clause-changes g c =
     let p = err_from_is_err_and r.result r.ensures.1 in
     let shape : g.P.Pages.shape c.take_pages.new.pages ≡ g.P.Pages.shape c.args.pages.now = c.in_ok-take_pages.ensures.takes.kept.keeps.same_shape ∙ c.in_ok-number.ensures.kept.keeps.same_shape in
     let names : NamesTree (g.P.Pages.shape c.args.pages.now).pages c.in_err-write_all.field-0.0 = subst (λ (s : FileShape). NamesTree s.pages c.in_err-write_all.field-0.0) shape c.in_err-write_all.ensures.writes.names in
+    let e = c.in_ok-number.ensures in
+    let k = c.in_ok-take_pages.ensures in
+    let first = one_more g.P.Pages c.args.pages.now c.draw_number.new.pages c.take_pages.new.pages c.in_ok-take_pages.field-0 (began _ g.P.Pages c.args.pages.now c.draw_number.new.pages c.in_ok-number.number e.kept) k.takes.kept in
     record {
-      kept = search rules;
+      kept = fails_behind _ _ g.P.Pages c.args.pages.now c.take_pages.new.pages c.write_all.new.pages c.in_err-write_all.field-0.0 p.0 r.result p.1 p.2 first c.in_err-write_all.ensures.writes.kept;
       changes = search rules;
       names = err_is (NamesInsert (g.P.Pages.shape c.args.pages.now).pages) r.result _ _ p.1 p.2 (inl names);
     }
@@ -98,8 +104,10 @@ returns-in_err-write_all-clause-sound g c tells owner root tree s path b can pre
     let fits_key : FitsSigned w64 c.args.key = search rules in
     let nodes = nodes_are _ _ _ _ _ _ _ c.as_slice-3.ensures.value c.settle-writes.ensures.writes c.as_slice-2.ensures.value in
     let settled_nodes : nodes_of list ≡ settled_pages tree c.args.key s.entries (steps_of c.args.work) news = nodes_settled tree _ c.args.key _ s.entries _ (steps_of c.args.work) news list nodes prepared.counter_is (to_z-of_z w64 c.args.key fits_key) (e.number tells s can.beside.is_space) in
-    let sound = c.in_err-write_all.ensures.sound (fits_of g.P.Pages c.args.pages.now c.draw_number.new.pages c.take_pages.new.pages owner root tree s path b c.args.work news took c.law_settles.ensures c.args.key list settled_nodes) in
-    search (rules, sound, c.from_residual-in_err-write_all.ensures)
+    let sound = c.in_err-write_all.ensures.sound (fits_of g.P.Pages c.args.pages.now c.draw_number.new.pages c.take_pages.new.pages owner root tree s path b c.args.work news took settles c.args.key list settled_nodes) in
+    let r = c.from_residual-in_err-write_all in
+    let p = err_from_is_err_and r.result r.ensures.1 in
+    err_is IsNoDamage r.result _ _ p.1 p.2 sound
 
 pub returns-clause-changes : goal.returns-clause-changes
 returns-clause-changes g c =
@@ -143,8 +151,8 @@ returns-clause-inserted g c tells owner root tree s path b can prepared =
     let settled_nodes : nodes_of list ≡ settled_pages tree c.args.key s.entries (steps_of c.args.work) news = nodes_settled tree _ c.args.key _ s.entries _ (steps_of c.args.work) news list nodes prepared.counter_is (to_z-of_z w64 c.args.key fits_key) number in
     let shape_new : g.P.Pages.shape c.write_all.new.pages ≡ g.P.Pages.shape c.args.pages.now = w.writes.kept.keeps.same_shape ∙ took.shape_at in
     let draws : ChangesOf g.P.Pages (0 ∷ []) c.args.pages.now c.draw_number.new.pages = draws_of g.P.Pages c.args.pages.now c.draw_number.new.pages e.grown e.others in
-    let once = written_once g.P.Pages c.args.pages.now c.draw_number.new.pages c.take_pages.new.pages owner root tree s path b c.args.work news took c.law_settles.ensures c.args.key list settled_nodes in
+    let once = written_once g.P.Pages c.args.pages.now c.draw_number.new.pages c.take_pages.new.pages owner root tree s path b c.args.work news took settles c.args.key list settled_nodes in
     let written : AreWritten owner (g.P.Pages.contents c.write_all.new.pages) list = subst (λ (o : ℕ). AreWritten o (g.P.Pages.contents c.write_all.new.pages) list) prepared.owner_is (w.written tells once) in
     let raises = c.settle-writes.ensures.raised ∙ ap (raised (reverse steps)) c.as_slice-2.ensures.value in
     let told = c.settle-writes.ensures.parted ∙ ap (parts (reverse steps)) c.as_slice-2.ensures.value in
-    inserted g.P.Pages c.args.pages.now c.draw_number.new.pages c.take_pages.new.pages owner root tree s path b c.args.work news took c.law_settles.ensures c.args.key list settled_nodes c.write_all.new.pages tells shape_new draws k.takes.changes w.writes.changes written _ number refl raises told
+    inserted g.P.Pages c.args.pages.now c.draw_number.new.pages c.take_pages.new.pages owner root tree s path b c.args.work news took settles c.args.key list settled_nodes c.write_all.new.pages tells shape_new draws k.takes.changes w.writes.changes written _ number refl raises told
