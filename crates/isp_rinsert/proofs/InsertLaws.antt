@@ -72,7 +72,6 @@ pub record Took {S : Type 0} (g : Ghosts S) (old mid at : S) (owner root : ℕ) 
 
 module _ {S : Type 0} (g : Ghosts S) (old mid at : S) (owner root : ℕ) (tree : Tree) (s : Space) (path : List ℕ) (b : Corners) (w : Prepared) (news : List PageNo)
     (t : Took g old mid at owner root tree s path b w news) where
-
   abbrev pub all_pages : List ℕ
   all_pages = numbers tree.pages
 
@@ -116,7 +115,6 @@ module _ {S : Type 0} (g : Ghosts S) (old mid at : S) (owner root : ℕ) (tree :
   -- ---- the pages that were written
 
   module _ (settles : Settles) (key : ℤ) (writes : List Settled) (nodes : nodes_of writes ≡ settled_pages tree key s.entries (steps_of w) news) where
-
     abbrev pub is_settled : IsSettled (g.shape old).fanout tree path b key s.entries (steps_of w) news
     is_settled = settles (g.shape old).fanout tree path b key s.entries t.prepared.pages (steps_of w) news can_settle
 
@@ -194,7 +192,6 @@ module _ {S : Type 0} (g : Ghosts S) (old mid at : S) (owner root : ℕ) (tree :
 
     module _ (new : S) (tells : g.tells) (shape_new : g.shape new ≡ g.shape old) (draws : ChangesOf g (0 ∷ []) old mid) (takes_in : ChangesOf g (0 ∷ numbers_of news) mid at)
         (writes_in : ChangesOf g (written_numbers writes) at new) (written : AreWritten owner (g.contents new) writes) where
-
       -- a page that is none of these stays
       stays : (x : ℕ) → times x (written_numbers writes) ≡ 0 → times x (numbers_of news) ≡ 0 → (0 == x) ≡ false → page_of (g.contents new) x ≡ page_of (g.contents old) x
       stays x unwritten untaken some =

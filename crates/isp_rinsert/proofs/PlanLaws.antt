@@ -82,9 +82,9 @@ ready_of pages path fanout b way w fan is plan counter room none news =
     let steps : List Planned = w.steps.items in
     let all : List PathPage = way.pages.items in
     let numbers : map step_number steps ≡ map path_number all =
-        sym (reverse-reverse (map step_number steps))
-        ∙ ap reverse (sym (map_reverse step_number steps) ∙ plan_numbers fanout b (reverse all) (Added b) (reverse steps) plan ∙ map_reverse path_number all)
-        ∙ reverse-reverse (map path_number all) in
+    sym (reverse-reverse (map step_number steps))
+    ∙ ap reverse (sym (map_reverse step_number steps) ∙ plan_numbers fanout b (reverse all) (Added b) (reverse steps) plan ∙ map_reverse path_number all)
+    ∙ reverse-reverse (map path_number all) in
     let long : length steps ≡ length all = sym (length-map steps step_number) ∙ ap (λ (l : List ℕ). length l) numbers ∙ length-map all path_number in
     let few = is.few in
     record {

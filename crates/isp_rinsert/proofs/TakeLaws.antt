@@ -110,7 +110,6 @@ taking_on g count so_many s news now p old mid new more pushed shape t page is =
           (subst (λ (n : ℕ). IsSpaceBeside n (g.contents mid) (all ++ numbers_of news) t.at) (sym shape) (t.beside all b)) page (λ q. one_more_times q all) is;
     }
 
-
 pub taking_all : {S : Type 0} (g : Ghosts S) (count so_many : ℕ) (s : Space) (news : List PageNo) (old now : S) → count ≤ so_many → Taking g count so_many s news old now → AreTaken g count s news old now
 taking_all g count so_many s news old now all t = by t.left refl
   where

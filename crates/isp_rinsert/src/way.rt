@@ -65,7 +65,15 @@ pub(crate) fn read_way<P: Pages>(
     let mut page = Page::zeros();
     let (owner, counter) = read_top(pages, path[0], &mut page)?;
     way.push_reserved(path_page(alloc, path[0], &page)?);
-    read_rest(alloc, pages, owner, path[0], &path[1..], &mut page, &mut way)?;
+    read_rest(
+        alloc,
+        pages,
+        owner,
+        path[0],
+        &path[1..],
+        &mut page,
+        &mut way,
+    )?;
     Ok(Way {
         owner,
         counter,

@@ -14,9 +14,9 @@ returns c =
     let w = c.args.w.now in
     let entries : List Entry = c.as_slice.result.now in
     let means : node_of c.set_entries.new.p.bytes ≡ node_with w.head w.entries.items =
-        c.set_entries.ensures.node
-        ∙ node_by c.set_head.new.p.bytes w.head entries (ap (λ (h : Header). h.level) mid) (ap (λ (h : Header). h.ssn) mid) (ap (λ (h : Header). h.next) mid)
-        ∙ ap (node_with w.head) c.as_slice.ensures.value in
+    c.set_entries.ensures.node
+    ∙ node_by c.set_head.new.p.bytes w.head entries (ap (λ (h : Header). h.level) mid) (ap (λ (h : Header). h.ssn) mid) (ap (λ (h : Header). h.next) mid)
+    ∙ ap (node_with w.head) c.as_slice.ensures.value in
     record {
       readable = c.set_entries.ensures.readable (ap (λ (h : Header). h.kind) mid);
       owner_is = ap (λ (h : Header). h.owner) new ∙ ap (λ (h : Header). h.owner) mid;
