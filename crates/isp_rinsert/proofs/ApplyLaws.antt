@@ -1,5 +1,5 @@
 -- A plan is carried out.
-use Rattle.std.proofs.Common.{rules, ◌≡◌, ℕ, ℤ, ◌+◌, ◌≤◌, List, length, reverse, refl, sym, ◌∙◌, ap, subst, arith}
+use Rattle.std.proofs.Common.{rules, ◌≡◌, ℕ, ℤ, ◌≤◌, List, length, reverse, sym, ◌∙◌, ap, subst, arith}
 use Rattle.std.specs.Prelude.{Err, Ok, Result}
 use Rattle.std.proofs.lemmas.List.{length-reverse}
 use Rattle.isp_base.specs.declared.page_no.PageNo.{PageNo}

@@ -1,7 +1,6 @@
 -- Lists of changed pages.
-use Rattle.std.proofs.Common.{◌≡◌, ℕ, suc, ◌+◌, ◌<◌, ◌≤◌, ◌==◌, ◌||◌, Bool, true, false, List, [], ◌∷◌, ◌++◌, length, refl, sym, ◌∙◌, ap, subst, arith, eqb-true, if◌then◌else◌}
-use Rattle.isp_format.specs.Ranges.{Contents, page_of}
-use Rattle.isp_page.proofs.GrowthLaws.{among_both, among_self, grows_none, grows_on, grows_within}
+use Rattle.std.proofs.Common.{◌≡◌, ℕ, suc, ◌+◌, ◌≤◌, ◌==◌, ◌||◌, Bool, true, false, List, [], ◌∷◌, ◌++◌, length, refl, sym, ◌∙◌, ap, subst, arith, eqb-true, if◌then◌else◌}
+use Rattle.isp_page.proofs.GrowthLaws.{among_both, among_self, grows_none, grows_within}
 use Rattle.isp_page.specs.State.{HasRoom, MiniTransaction, is_among, most_changed}
 use Rattle.isp_page.specs.Touched.{AreAmong, Grows, KeepsPages, is_page, unchanged_of}
 use Rattle.isp_page.specs.declared.pages.Pages.{Ghosts}

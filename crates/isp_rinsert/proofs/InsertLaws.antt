@@ -1,8 +1,8 @@
 -- From the pages that were taken and written to the tree in which the entry was placed.
-use Rattle.std.proofs.Common.{inl, inr, ◌≡◌, ◌⊎◌, ℕ, zero, suc, ℤ, ◌+◌, ◌<◌, ◌≤◌, ◌==◌, ◌||◌, Bool, true, false, cond, Option, Some, None, List, [], ◌∷◌, ◌++◌, length, map, reverse, refl, sym, ◌∙◌, ap, subst, arith, eqb-true}
+use Rattle.std.proofs.Common.{inl, inr, ◌≡◌, ◌⊎◌, ℕ, zero, suc, ℤ, ◌+◌, ◌<◌, ◌≤◌, ◌==◌, ◌||◌, Bool, true, false, Option, Some, None, List, [], ◌∷◌, ◌++◌, length, map, reverse, refl, sym, ◌∙◌, ap, subst, arith, eqb-true}
 use Rattle.isp_base.specs.Lists.{Has, times}
 use Rattle.isp_base.specs.declared.page_no.PageNo.{PageNo}
-use Rattle.isp_format.specs.Ranges.{Contents, page_of}
+use Rattle.isp_format.specs.Ranges.{page_of}
 use Rattle.isp_mbr.specs.Corners.{Corners}
 use Rattle.isp_growing.proofs.TakenLaws.{none_out, out_none}
 use Rattle.isp_growing.specs.Taking.{taken_times, takes}
@@ -19,11 +19,10 @@ use Rattle.isp_space.specs.Changes.{ChangesOf}
 use Rattle.isp_space.specs.Spaces.{IsSpace, Space, space_pages}
 use Rattle.isp_forest.specs.Forest.{Forest, IsPage}
 use Rattle.isp_forest.specs.declared.entry.To.TheVariants.{Row}
-use Rattle.isp_forest.specs.Tree.{Node, Tree, counter, numbers, page_at, page_in}
+use Rattle.isp_forest.specs.Tree.{Node, Tree, numbers, page_at, page_in}
 use Rattle.isp_rnode.specs.Nodes.{IsNode}
 use Rattle.isp_rplan.proofs.BeginLaws.{path_once}
 use Rattle.isp_rplan.specs.Divisions.{divisions, pages_needed, raised_to}
-use Rattle.isp_rplan.specs.declared.steps.PathPage.{PathPage}
 use Rattle.isp_rplan.specs.declared.steps.Planned.{Planned}
 use Rattle.isp_forest.specs.Steps.{add}
 use Rattle.isp_rtree.specs.Growing.{AreGrowths}
@@ -31,7 +30,7 @@ use Rattle.isp_rtree.specs.declared.growing.Growth.{Growth}
 use Rattle.isp_rsettle.specs.declared.outcome.Parted.{Parted}
 use Rattle.isp_rsettle.specs.declared.outcome.Raised.{Raised}
 use Rattle.isp_rsettle.specs.Placed.{AreParted, CanSettle, IsPathPage, IsRaised, IsSettled, Settles, page_number, path_number, placed, settled_pages}
-use Rattle.isp_rsettle.specs.Settling.{node_with, nodes_of, parts, raised, settled}
+use Rattle.isp_rsettle.specs.Settling.{node_with, nodes_of, parts, raised}
 use Rattle.isp_rsettle.specs.declared.outcome.Settled.{Settled}
 use Rattle.isp_rtree.specs.Making.{HasSpace}
 use Rattle.isp_rtree.specs.Trees.{IsTreeIn}
@@ -40,7 +39,7 @@ use Rattle.isp_rinsert.specs.Inserting.{CanInsert, IsInserted, drawn}
 use Rattle.isp_rinsert.specs.Preparing.{IsPrepared}
 use Rattle.isp_rinsert.specs.declared.inserting.Changes.{Changes}
 use Rattle.isp_rinsert.specs.declared.preparing.Prepared.{Prepared}
-use Rattle.isp_rinsert.proofs.SettledLaws.{IsIn, IsNotIn, found_at, found_in, written_are}
+use Rattle.isp_rinsert.proofs.SettledLaws.{found_at, found_in, written_are}
 use Rattle.isp_rinsert.proofs.WriteLaws.{has_number}
 
 -- ---- counts

@@ -1,5 +1,5 @@
 -- Pages that are taken one after another.
-use Rattle.std.proofs.Common.{rules, inl, inr, ◌≡◌, ℕ, zero, suc, ◌+◌, ◌<◌, ◌≤◌, List, [], ◌∷◌, ◌++◌, length, map, refl, sym, ◌∙◌, ap, subst, arith}
+use Rattle.std.proofs.Common.{rules, ◌≡◌, ℕ, zero, suc, ◌+◌, ◌<◌, ◌≤◌, List, [], ◌∷◌, ◌++◌, length, refl, sym, ◌∙◌, ap, subst, arith}
 use Rattle.std.specs.Prelude.{Ok}
 use Rattle.std.proofs.lemmas.List.{append_assoc, append-nil, map-append}
 use Rattle.isp_base.specs.Lists.{Has, times}
@@ -12,7 +12,7 @@ use Rattle.isp_page.specs.Calls.{Continued, Continues}
 use Rattle.isp_page.specs.Touched.{AreAmong}
 use Rattle.isp_page.specs.declared.pages.Pages.{Ghosts}
 use Rattle.isp_space.specs.Changes.{ChangesOf}
-use Rattle.isp_space.specs.Spaces.{IsSpace, Space, free_pages, next_free, taken}
+use Rattle.isp_space.specs.Spaces.{Space, free_pages, next_free, taken}
 use Rattle.isp_growing.proofs.TakenLaws.{free_taken}
 use Rattle.isp_growing.specs.Taking.{taken_times, takes}
 use Rattle.isp_rsettle.specs.Placed.{page_number}

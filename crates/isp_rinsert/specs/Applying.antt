@@ -1,6 +1,6 @@
 -- Pages that are taken one after another, and pages that are written.
-use Rattle.std.specs.Prelude.{◌≡◌, ℕ, ◌+◌, ◌<◌, ◌≤◌, ◌==◌, true, is_none, List, [], ◌∷◌, ◌++◌, Result, length, map, IfErr, OnOk}
-use Rattle.isp_base.specs.Lists.{Has, times}
+use Rattle.std.specs.Prelude.{◌≡◌, ℕ, ◌+◌, ◌<◌, ◌≤◌, ◌==◌, true, is_none, List, ◌∷◌, ◌++◌, Result, length, map, IfErr, OnOk}
+use Rattle.isp_base.specs.Lists.{Has}
 use Rattle.isp_base.specs.declared.page_no.PageNo.{PageNo}
 use Rattle.isp_format.specs.Empty.{first_fresh}
 use Rattle.isp_format.specs.Ranges.{Contents, page_of}
@@ -14,7 +14,7 @@ use Rattle.isp_space.specs.Spaces.{NamesSpace, Space}
 use Rattle.isp_growth.specs.Growing.{IsSpaceBeside}
 use Rattle.isp_growing.specs.Taking.{taken_times, takes}
 use Rattle.isp_forest.specs.declared.entry.Entry.{Entry}
-use Rattle.isp_forest.specs.Tree.{Node, child_of}
+use Rattle.isp_forest.specs.Tree.{child_of}
 use Rattle.isp_rnode.specs.Nodes.{IsNode, most_entries}
 use Rattle.isp_rsettle.specs.Placed.{page_number}
 use Rattle.isp_rsettle.specs.Settling.{node_with}

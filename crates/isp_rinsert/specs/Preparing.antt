@@ -1,7 +1,6 @@
 -- What an insert has before it changes a page: the plan, and all memory.
 use Rattle.std.specs.Prelude.{◌≡◌, ℕ, ◌<◌, ◌≤◌, List, [], length, map, reverse, vec_capacity}
 use Rattle.isp_base.specs.Lists.{Has}
-use Rattle.isp_base.specs.declared.page_no.PageNo.{PageNo}
 use Rattle.isp_format.specs.Control.{IsFanout}
 use Rattle.isp_mbr.specs.Boxes.{IsBox}
 use Rattle.isp_mbr.specs.Corners.{Corners}

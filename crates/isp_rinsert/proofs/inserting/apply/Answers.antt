@@ -1,4 +1,4 @@
-use Rattle.std.proofs.Common.{rules, inl, ◌≡◌, ℕ, ℤ, ◌<◌, ◌≤◌, FitsSigned, List, [], ◌∷◌, length, refl, reverse, sym, ◌∙◌, ap, subst, arith, w64}
+use Rattle.std.proofs.Common.{rules, inl, ◌≡◌, ℕ, FitsSigned, List, [], ◌∷◌, length, refl, reverse, ◌∙◌, ap, subst, arith, w64}
 use Rattle.std.proofs.lemmas.Int.{to_z-of_z}
 use Rattle.std.proofs.lemmas.Result.{err_from_is_err_and}
 use Rattle.isp_base.specs.declared.page_no.PageNo.{PageNo}

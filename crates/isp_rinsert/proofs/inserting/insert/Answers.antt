@@ -1,4 +1,4 @@
-use Rattle.std.proofs.Common.{rules, ◌≡◌, ℤ, FitsSigned, sym, subst, w64}
+use Rattle.std.proofs.Common.{rules, ℤ, FitsSigned, sym, subst, w64}
 use Rattle.std.proofs.lemmas.Int.{to_z-of_z}
 use Rattle.isp_page.specs.State.{FileShape}
 use Rattle.isp_rtree.specs.Paths.{numbers_of}

@@ -1,4 +1,4 @@
-use Rattle.std.proofs.Common.{rules, ◌≡◌, ◌<◌, List, [], ◌∷◌, length, refl, sym, ◌∙◌, ap, subst, arith}
+use Rattle.std.proofs.Common.{rules, ◌<◌, List, ◌∷◌, length, refl, ◌∙◌, ap, subst, arith}
 use Rattle.isp_base.specs.Lists.{Has}
 use Rattle.isp_base.specs.declared.page_no.PageNo.{PageNo}
 use Rattle.isp_page.specs.State.{FileShape}

@@ -1,11 +1,11 @@
-use Rattle.std.proofs.Common.{rules, ℕ, ◌≡◌, ◌+◌, ◌<◌, suc, List, [], ◌∷◌, drop, get_or, length, refl, sym, ◌∙◌, ap, subst, arith}
+use Rattle.std.proofs.Common.{rules, ◌≡◌, ◌+◌, ◌<◌, suc, List, drop, get_or, refl, sym, ◌∙◌, ap, subst, arith}
 use Rattle.std.specs.Prelude.{Err}
 use Rattle.std.proofs.lemmas.Result.{err_from_is_err_and}
 use Rattle.isp_base.specs.declared.page_no.PageNo.{PageNo}
 use Rattle.isp_format.specs.Header.{header_of}
 use Rattle.isp_format.specs.Ranges.{Contents, page_of}
 use Rattle.isp_page.specs.State.{FileShape}
-use Rattle.isp_rtree.specs.Paths.{Leads, numbers_of}
+use Rattle.isp_rtree.specs.Paths.{numbers_of}
 use Rattle.isp_rtree.specs.Trees.{IsPageOf}
 use Rattle.isp_rtree.proofs.PathLaws.{Below, ahead, none_ahead}
 use Rattle.isp_rinsert.proofs.WayLaws.{goes_none, goes_on, one_more, reads_on, walks_all, walks_leaf, walks_next, walks_none, walks_on}

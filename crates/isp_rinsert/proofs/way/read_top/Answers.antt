@@ -1,4 +1,4 @@
-use Rattle.std.proofs.Common.{rules, ◌≡◌, ◌<◌, ◌≤◌, ap, arith}
+use Rattle.std.proofs.Common.{rules, ◌≡◌, ap, arith}
 use Rattle.isp_format.specs.Header.{Header, header_of}
 use Rattle.isp_rinsert.proofs.WayLaws.{counter_read}
 use Rattle.isp_rinsert.proofs.way.read_top.Goals as goal

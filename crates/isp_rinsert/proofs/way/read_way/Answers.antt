@@ -1,11 +1,11 @@
-use Rattle.std.proofs.Common.{rules, ℕ, ◌≡◌, ◌<◌, ◌≤◌, ◌++◌, List, [], ◌∷◌, get_or, length, map, refl, sym, ◌∙◌, ap, subst, arith}
+use Rattle.std.proofs.Common.{rules, ℕ, ◌≡◌, ◌++◌, List, [], ◌∷◌, get_or, refl, sym, ◌∙◌, ap, subst}
 use Rattle.isp_base.specs.declared.page_no.PageNo.{PageNo}
 use Rattle.isp_format.specs.Header.{header_of}
-use Rattle.isp_format.specs.Ranges.{Contents, page_of}
+use Rattle.isp_format.specs.Ranges.{Contents}
 use Rattle.isp_page.specs.State.{FileShape}
 use Rattle.isp_forest.specs.Place.{Stands}
 use Rattle.isp_rplan.specs.declared.steps.PathPage.{PathPage}
-use Rattle.isp_rtree.specs.Paths.{Leads, numbers_of}
+use Rattle.isp_rtree.specs.Paths.{numbers_of}
 use Rattle.isp_rtree.specs.Trees.{IsAtPage, IsTreeAt}
 use Rattle.isp_rtree.proofs.PathLaws.{first_inside, others, parts_of}
 use Rattle.isp_rinsert.specs.Ways.{GoesDown, GoesDownIn}

@@ -1,4 +1,4 @@
-use Rattle.std.proofs.Common.{◌≡◌, ◌==◌, false, List, subst}
+use Rattle.std.proofs.Common.{◌≡◌, ◌==◌, false, subst}
 use Rattle.std.specs.Prelude.{IsTrue, is_none}
 use Rattle.isp_forest.specs.declared.entry.Entry.{Entry}
 use Rattle.isp_forest.specs.Tree.{child_of}

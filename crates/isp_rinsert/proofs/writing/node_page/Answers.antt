@@ -1,7 +1,6 @@
-use Rattle.std.proofs.Common.{◌≡◌, ℕ, List, length, refl, sym, ◌∙◌, ap, subst}
+use Rattle.std.proofs.Common.{◌≡◌, List, sym, ◌∙◌, ap}
 use Rattle.isp_forest.specs.declared.entry.Entry.{Entry}
-use Rattle.isp_forest.specs.Tree.{Node}
-use Rattle.isp_format.specs.Header.{Header, header_of}
+use Rattle.isp_format.specs.Header.{Header}
 use Rattle.isp_rnode.specs.Nodes.{entry_place, node_of}
 use Rattle.isp_rsettle.specs.Settling.{node_with}
 use Rattle.isp_rinsert.proofs.WriteLaws.{node_by}

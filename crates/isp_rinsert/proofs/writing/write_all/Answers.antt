@@ -1,5 +1,4 @@
-use Rattle.std.proofs.Common.{rules, ◌≡◌, ◌<◌, ◌∷◌, List, [], sym, subst}
-use Rattle.isp_base.specs.Lists.{Has}
+use Rattle.std.proofs.Common.{rules, ◌<◌, ◌∷◌, List, [], sym, subst}
 use Rattle.isp_page.proofs.GrowthLaws.{among_self}
 use Rattle.isp_page.specs.State.{FileShape}
 use Rattle.isp_rsettle.specs.declared.outcome.Settled.{Settled}

@@ -1,4 +1,4 @@
-use Rattle.std.proofs.Common.{◌≡◌, ◌≤◌, ℕ, take}
+use Rattle.std.proofs.Common.{◌≤◌, ℕ, take}
 use Rattle.isp_base.specs.Lists.{times}
 use Rattle.isp_page.specs.Calls.{Continued}
 use Rattle.isp_space.specs.Changes.{ChangesOf}
