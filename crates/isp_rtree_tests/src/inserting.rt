@@ -15,50 +15,50 @@ use std::alloc::Global;
 
 /// Where a point is put, its key, and the leaf at the end of its path.
 #[derive(Clone, Copy)]
-struct Put {
+struct Point {
     at: [i32; 2],
     key: i64,
     leaf: u32,
 }
 
 /// Five points on a root that is a leaf, and three more on one of its two leaves then.
-static PUTS: [Put; 8] = [
-    Put {
+static POINTS: [Point; 8] = [
+    Point {
         at: [0, 0],
         key: 0,
         leaf: 16,
     },
-    Put {
+    Point {
         at: [1, 1],
         key: 1,
         leaf: 16,
     },
-    Put {
+    Point {
         at: [10, 10],
         key: 2,
         leaf: 16,
     },
-    Put {
+    Point {
         at: [11, 11],
         key: 3,
         leaf: 16,
     },
-    Put {
+    Point {
         at: [2, 2],
         key: 4,
         leaf: 16,
     },
-    Put {
+    Point {
         at: [9, 9],
         key: 5,
         leaf: 18,
     },
-    Put {
+    Point {
         at: [12, 12],
         key: 6,
         leaf: 18,
     },
-    Put {
+    Point {
         at: [13, 13],
         key: 7,
         leaf: 18,
@@ -182,7 +182,7 @@ fn put_in<P: Pages>(
 }
 
 // The same in a mini-transaction of its own.
-fn put<P: Pages>(alloc: Global, pages: &mut P, p: Put) -> Result<Option<Changes>, Fault>
+fn put<P: Pages>(alloc: Global, pages: &mut P, p: Point) -> Result<Option<Changes>, Fault>
     requires usable { P.usable pages.old ≡ true }
     requires none { P.mini pages.old ≡ none_begun }
     requires root { 16 < (P.shape pages.old).pages }
@@ -200,7 +200,7 @@ fn put<P: Pages>(alloc: Global, pages: &mut P, p: Put) -> Result<Option<Changes>
 }
 
 // Puts these points in.
-fn put_all<P: Pages>(alloc: Global, pages: &mut P, puts: &[Put]) -> Result<(), Fault>
+fn put_all<P: Pages>(alloc: Global, pages: &mut P, points: &[Point]) -> Result<(), Fault>
     requires usable { P.usable pages.old ≡ true }
     requires none { P.mini pages.old ≡ none_begun }
     requires root { 16 < (P.shape pages.old).pages }
@@ -208,7 +208,7 @@ fn put_all<P: Pages>(alloc: Global, pages: &mut P, puts: &[Put]) -> Result<(), F
     ensures none { OnOk result (P.mini pages.new ≡ none_begun) }
     ensures shape { OnOk result (P.shape pages.new ≡ P.shape pages.old) }
 {
-    for p in puts {
+    for p in points {
         let _changes = put(alloc, pages, *p)?;
     }
     Ok(())
@@ -238,7 +238,7 @@ fn is_raised(changes: &Changes) -> bool {
     changes.number == 4
         && changes.growths.len() == 0
         && changes.raised == Some(raised)
-        && changes.divisions.as_slice() == &[parted]
+        && changes.divisions.as_slice() == [parted].as_slice()
 }
 
 // Whether they are those of the eighth, which divides a leaf.
@@ -268,16 +268,16 @@ fn is_divided(changes: &Changes) -> bool {
         new_box,
     };
     changes.number == 7
-        && changes.growths.as_slice() == &[growth]
+        && changes.growths.as_slice() == [growth].as_slice()
         && changes.raised.is_none()
-        && changes.divisions.as_slice() == &[parted]
+        && changes.divisions.as_slice() == [parted].as_slice()
 }
 
 fn raises_the_root(alloc: Global) -> Result<bool, Fault> {
     let mut pages = MemPages::new(alloc, 128, 4, 0)?;
     make(&mut pages)?;
-    put_all(alloc, &mut pages, &PUTS[..4])?;
-    let told = put(alloc, &mut pages, PUTS[4])?;
+    put_all(alloc, &mut pages, &POINTS[..4])?;
+    let told = put(alloc, &mut pages, POINTS[4])?;
     let seen = sees_all(alloc, &mut pages, PageNo(16), &RAISED, 1)?;
     match told {
         Some(changes) => Ok(seen && is_raised(&changes)),
@@ -293,8 +293,8 @@ fn a_full_root_is_raised_and_divided(rt: HostRuntime) {
 fn divides_a_leaf(alloc: Global) -> Result<bool, Fault> {
     let mut pages = MemPages::new(alloc, 128, 4, 0)?;
     make(&mut pages)?;
-    put_all(alloc, &mut pages, &PUTS[..7])?;
-    let told = put(alloc, &mut pages, PUTS[7])?;
+    put_all(alloc, &mut pages, &POINTS[..7])?;
+    let told = put(alloc, &mut pages, POINTS[7])?;
     let seen = sees_all(alloc, &mut pages, PageNo(16), &DIVIDED, 2)?;
     match told {
         Some(changes) => Ok(seen && is_divided(&changes)),
