@@ -76,7 +76,7 @@ level_once tree forest (p ∷ rest) x y path hx hy same = by (p == x) (p == y) r
     by false false sx sy again = again (behind x sx hx) (behind y sy hy)
 
 -- a path has no page twice
-path_once : (tree : Tree) → Forest tree → (path : List ℕ) (x : ℕ) → IsPath tree path → times x path ≤ 1
+pub path_once : (tree : Tree) → Forest tree → (path : List ℕ) (x : ℕ) → IsPath tree path → times x path ≤ 1
 path_once tree forest [] x path = omega arith
 path_once tree forest (p ∷ []) x path = by (p == x)
   where

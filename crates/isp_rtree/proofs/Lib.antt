@@ -1,5 +1,5 @@
 mod GrowLaws
 mod MakeLaws
-mod PathLaws
+pub mod PathLaws
 mod RemoveLaws
 pub mod TreeLaws

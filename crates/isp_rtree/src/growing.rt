@@ -1,8 +1,9 @@
 //! What grows on a path.
-ghost use Rattle.std.specs.Prelude.{◌≡◌, ◌<◌, ◌≤◌, ◌∷◌, [], ℕ, suc, length, true, vec_capacity, IfErr, IfOk, OnOk};
+ghost use Rattle.std.specs.Prelude.{◌≡◌, ◌<◌, ◌≤◌, ◌∷◌, [], ℕ, suc, length, true, vec_capacity, Err, IfErr, IfOk, OnOk};
 ghost use Rattle.isp_format.specs.Header.{header_of};
 ghost use Rattle.isp_format.specs.Ranges.{page_of};
 ghost use Rattle.isp_page.specs.Steps.{IsNoDamage, IsNoDamageOrLacks};
+ghost use Rattle.isp_page.specs.declared.fault.Fault.TheVariants.{Memory};
 ghost use Rattle.isp_space.specs.Changes.{ReadsPages};
 ghost use Rattle.isp_forest.specs.Place.{IsPath, Stands};
 ghost use Rattle.isp_forest.specs.Tree.{Tree};
@@ -51,6 +52,7 @@ pub fn growths<P: Pages>(
         → IfOk result (λ grown. AreGrowths tree b.now (numbers_of path.now) grown.items) }
     ensures sound { P.tells → (owner root : ℕ) (tree : Tree) → HasTree P.Pages pages.old owner root tree
         → Stands tree (numbers_of path.now) → IfErr result IsNoDamageOrLacks }
+    ensures lacks { result ≡ Err Memory → pages.new ≡ pages.old }
 {
     let mut grown = Vec::with_capacity(alloc, path.len())?;
     grow(pages, path, b, &mut grown)?;

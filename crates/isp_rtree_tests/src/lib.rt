@@ -8,6 +8,8 @@
 #[cfg(test)]
 mod finding;
 #[cfg(test)]
+mod inserting;
+#[cfg(test)]
 mod making;
 #[cfg(test)]
 mod removing;

@@ -1,0 +1,9 @@
+mod ApplyLaws
+mod BehindLaws
+mod ChangeLaws
+mod InsertLaws
+mod PlanLaws
+mod SettledLaws
+mod TakeLaws
+mod WayLaws
+mod WriteLaws
