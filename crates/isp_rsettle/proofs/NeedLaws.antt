@@ -1,5 +1,5 @@
 -- How many pages a plan needs, counted from the root down.
-use Rattle.std.proofs.Common.{◌≡◌, ℕ, ◌+◌, ◌≤◌, Option, Some, None, List, [], ◌∷◌, ◌++◌, length, reverse, drop, refl, sym, ◌∙◌, ap, arith}
+use Rattle.std.proofs.Common.{◌≡◌, ℕ, ◌+◌, ◌≤◌, Option, Some, None, List, [], ◌∷◌, ◌++◌, length, reverse, drop, refl, ap, arith}
 use Rattle.std.proofs.lemmas.List.{drop_all, reverse-append}
 use Rattle.isp_forest.specs.declared.entry.Entry.{Entry}
 use Rattle.isp_rplan.specs.Divisions.{needs, pages_needed}

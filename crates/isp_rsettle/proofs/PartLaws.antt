@@ -1,5 +1,5 @@
 -- The pages of a settled plan: their numbers are those of the path and of the new pages, and none has more entries than the fan-out.
-use Rattle.std.proofs.Common.{◌≡◌, ◌⊎◌, inl, inr, ℕ, suc, ◌+◌, ◌<◌, ◌≤◌, ◌==◌, cond, Option, Some, None, List, [], ◌∷◌, ◌++◌, length, length-append, map, refl, sym, ◌∙◌, ap, subst, arith}
+use Rattle.std.proofs.Common.{◌≡◌, inl, inr, ℕ, ◌+◌, ◌≤◌, Option, Some, None, List, [], ◌∷◌, ◌++◌, length, length-append, map, refl, ◌∙◌, ap, subst, arith}
 use Rattle.std.proofs.lemmas.List.{length-map}
 use Rattle.std.proofs.lemmas.List.Sorted.{length_permutation}
 use Rattle.isp_base.specs.Lists.{Has, times}
@@ -13,7 +13,7 @@ use Rattle.isp_forest.specs.Tree.{Node, numbers}
 use Rattle.isp_laws.specs.DivisionLaws.{AreParts}
 use Rattle.isp_laws.proofs.ListLaws.{Has-append, times-append}
 use Rattle.isp_laws.proofs.PageLaws.{numbers-append}
-use Rattle.isp_rplan.specs.Divisions.{known_after, needs, news_after, number_of, page_numbers, pages_needed, stays_of}
+use Rattle.isp_rplan.specs.Divisions.{known_after, needs, news_after, number_of, page_numbers, pages_needed}
 use Rattle.isp_rplan.specs.Plans.{AreDivided, AreParted, AreWhole, IsPlan, carry_of, known, least_fill, moves_of, new_entry, with_carry}
 use Rattle.isp_rplan.specs.declared.steps.Carry.{Carry}
 use Rattle.isp_rplan.specs.declared.steps.Carry.TheVariants.{Added, Divided, Grown}
@@ -76,8 +76,8 @@ numbered fanout b (p ∷ q ∷ pages) carry (s ∷ t ∷ steps) counter to news 
     let first = settled_page counter to s (moves_of s) news in
     let others = settled (counter_after counter (moves_of s)) (known_after to (moves_of s) news) (t ∷ steps) (news_after (moves_of s) news) in
     let joined : times x (numbers (settled_page counter to s (moves_of s) news ++ settled (counter_after counter (moves_of s)) (known_after to (moves_of s) news) (t ∷ steps) (news_after (moves_of s) news)))
-            ≡ times x (numbers (settled_page counter to s (moves_of s) news)) + times x (numbers (settled (counter_after counter (moves_of s)) (known_after to (moves_of s) news) (t ∷ steps) (news_after (moves_of s) news))) =
-        ap (times x) (numbers-append first others) ∙ times-append x (numbers first) (numbers others) in
+    ≡ times x (numbers (settled_page counter to s (moves_of s) news)) + times x (numbers (settled (counter_after counter (moves_of s)) (known_after to (moves_of s) news) (t ∷ steps) (news_after (moves_of s) news))) =
+    ap (times x) (numbers-append first others) ∙ times-append x (numbers first) (numbers others) in
     omega (arith, same, here, rest, joined)
 
 -- ---- entries

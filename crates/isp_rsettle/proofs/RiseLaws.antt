@@ -1,6 +1,6 @@
 -- A plan is settled on the tree from the page at hand up: what the pages of it and of those above it are, whether it is divided,
 -- whole, or the root.
-use Rattle.std.proofs.Common.{◌≡◌, ◌⊎◌, inl, inr, ℕ, zero, suc, ◌+◌, ◌<◌, ◌≤◌, ◌==◌, Bool, true, false, cond, Option, Some, None, List, [], ◌∷◌, ◌++◌, length, map, refl, sym, ◌∙◌, ap, subst, arith, eqb-true, eq-eqb}
+use Rattle.std.proofs.Common.{◌≡◌, inl, inr, ℕ, zero, suc, ◌+◌, ◌<◌, ◌≤◌, ◌==◌, Bool, true, false, cond, Option, Some, None, List, [], ◌∷◌, ◌++◌, length, map, refl, sym, ◌∙◌, ap, subst, arith, eqb-true}
 use Rattle.std.specs.Option.{option_map}
 use Rattle.isp_base.specs.Lists.{Has, times}
 use Rattle.isp_base.specs.declared.page_no.PageNo.{PageNo}
@@ -19,10 +19,10 @@ use Rattle.isp_laws.proofs.ListLaws.{times-append, times-same}
 use Rattle.isp_laws.proofs.PageLaws.{numbers-append, numbers-put, page_in-put_other, put_new, times_free}
 use Rattle.isp_laws.proofs.PlaceLaws.{can_raise, raised_page}
 use Rattle.isp_laws.proofs.RaiseLaws.{apart, lifted, made, moved, raise_keeps, turned}
-use Rattle.isp_laws.proofs.SplitLaws.{Splitting, counter_grows, numbered_split, round, split_is, split_keeps}
+use Rattle.isp_laws.proofs.SplitLaws.{counter_grows, numbered_split, round, split_is, split_keeps}
 use Rattle.isp_rnode.specs.Nodes.{link_of}
-use Rattle.isp_rplan.specs.Divisions.{AreNew, HasEntries, division, division_page, division_root, divisions, known_after, needs, news_after, number_of, page_numbers, pages_needed, raised_to, stays_of}
-use Rattle.isp_rplan.specs.Plans.{AreDivided, AreRound, AreWhole, IsPlan, IsPlanned, carry_of, carry_up, known, moves_of, with_carry}
+use Rattle.isp_rplan.specs.Divisions.{AreNew, division, division_page, division_root, divisions, known_after, needs, news_after, number_of, page_numbers, pages_needed, raised_to, stays_of}
+use Rattle.isp_rplan.specs.Plans.{AreDivided, AreRound, AreWhole, IsPlan, carry_of, carry_up, known, moves_of, with_carry}
 use Rattle.isp_rplan.specs.declared.steps.Carry.{Carry}
 use Rattle.isp_rplan.specs.declared.steps.Carry.TheVariants.{Divided, Grown}
 use Rattle.isp_rplan.specs.declared.steps.Moves.{Moves}
@@ -118,7 +118,6 @@ whole_rises tree up o node news q list told top there r = record {
 -- ---- a split
 
 module _ (tree : Tree) (forest : Forest tree) (o above n : ℕ) (left right : List Entry) (can : CanSplit tree o above left right n) where
-
   abbrev parted_tree : Tree
   parted_tree = split tree o above left right n
 
@@ -265,10 +264,10 @@ hand_node fanout b tree carry to page next pages steps news c s head_is entries 
     let node : h.node ≡ c.up.hand.node = same_page (page_at tree page.page.0) h.node c.up.hand.node h.there c.up.hand.there in
     let inner : (page.page.0 == tree.root) ≡ false = named_not_root tree c.forest next.page.0 page.page.0 c.up.up.0.0 c.up.up.0.1 in
     node_is (record c.up.hand.node { entries = all }) s.head entries
-        (ap (λ (x : NodeHead). x.level) head_is ∙ h.level ∙ ap (λ (x : Node). x.level) node)
-        (ap (λ (x : NodeHead). x.ssn) head_is ∙ h.ssn inner ∙ ap (λ (x : Node). x.ssn) node)
-        (ap (λ (x : NodeHead). link_of x.next.0) head_is ∙ h.next ∙ ap (λ (x : Node). x.next) node)
-        same
+    (ap (λ (x : NodeHead). x.level) head_is ∙ h.level ∙ ap (λ (x : Node). x.level) node)
+    (ap (λ (x : NodeHead). x.ssn) head_is ∙ h.ssn inner ∙ ap (λ (x : Node). x.ssn) node)
+    (ap (λ (x : NodeHead). link_of x.next.0) head_is ∙ h.next ∙ ap (λ (x : Node). x.next) node)
+    same
 
 -- ---- a whole page below the root
 
@@ -298,8 +297,8 @@ whole_case fanout b tree carry to page next pages s t steps news c none again =
     let bare = subst (λ (ds : List Division). Rises tree (page_numbers (next ∷ pages)) (map number_of news) (raised_to (t ∷ steps) news) ds (settled (counter tree) to (t ∷ steps) news) (parts (t ∷ steps) news) (raised (t ∷ steps) news)) empty rest in
     let here = whole_rises tree (page_numbers (next ∷ pages)) page.page.0 c.up.hand.node (map number_of news) (raised_to (t ∷ steps) news) (settled (counter tree) to (t ∷ steps) news) (parts (t ∷ steps) news) (raised (t ∷ steps) news) c.up.hand.there bare in
     subst (λ (w : ℕ × Node). Rises tree (page_numbers (page ∷ next ∷ pages)) (map number_of news) (raised_to (t ∷ steps) news) (divisions to (t ∷ steps) news) (w ∷ settled (counter tree) to (t ∷ steps) news) (parts (t ∷ steps) news) (raised (t ∷ steps) news))
-        shown
-        (subst (λ (ds : List Division). Rises tree (page_numbers (page ∷ next ∷ pages)) (map number_of news) (raised_to (t ∷ steps) news) ds ((page.page.0, c.up.hand.node) ∷ settled (counter tree) to (t ∷ steps) news) (parts (t ∷ steps) news) (raised (t ∷ steps) news)) (sym empty) here)
+    shown
+    (subst (λ (ds : List Division). Rises tree (page_numbers (page ∷ next ∷ pages)) (map number_of news) (raised_to (t ∷ steps) news) ds ((page.page.0, c.up.hand.node) ∷ settled (counter tree) to (t ∷ steps) news) (parts (t ∷ steps) news) (raised (t ∷ steps) news)) (sym empty) here)
 
 -- ---- a page below the root is divided
 
@@ -373,21 +372,21 @@ divided_case fanout fan b tree carry to page next pages s t steps n news moves c
       count = count;
     }) in
     let rest = subst (λ (k : ℕ). Rises (split tree o above left right n.0) (page_numbers (next ∷ pages)) (map number_of news) (raised_to (t ∷ steps) news) (divisions (Child n) (t ∷ steps) news) (settled k (Child n) (t ∷ steps) news) (parts (t ∷ steps) news) (raised (t ∷ steps) news))
-        (split_counter tree forest o above n.0 left right can) first in
+    (split_counter tree forest o above n.0 left right can) first in
     let counted = numbered fanout b (next ∷ pages) (Divided page.page (least stays) (least moves)) (t ∷ steps) (suc (counter tree)) (Child n) news plan count in
     let same : can.page ≡ u.hand.node = same_page (page_at tree o) can.page u.hand.node can.there u.hand.there in
     let h : HasHead tree page = c.heads page (inl refl) in
     let node : h.node ≡ u.hand.node = same_page (page_at tree o) h.node u.hand.node h.there u.hand.there in
     let level : can.page.level ≡ s.head.level = ap (λ (x : Node). x.level) (same ∙ sym node) ∙ sym h.level ∙ ap (λ (x : NodeHead). x.level) (sym c.plan.0.head_is) in
     let keeps : page_at (split tree o above left right n.0) o ≡ Some (left_page (counter tree) to s n) =
-        split_at_o tree forest o above n.0 left right can ∙ (λ i. Some (record { level = level i; ssn = suc (counter tree); next = sym (link_some n.0 some) i; entries = left })) in
+    split_at_o tree forest o above n.0 left right can ∙ (λ i. Some (record { level = level i; ssn = suc (counter tree); next = sym (link_some n.0 some) i; entries = left })) in
     let moved_node : right_page to s moves ≡ record u.hand.node { entries = right } = hand_node fanout b tree carry to page next pages (s ∷ t ∷ steps) (n ∷ news) c s c.plan.0.head_is right right refl in
     let goes : page_at (split tree o above left right n.0) n.0 ≡ Some (right_page to s moves) =
-        split_at_n tree forest o above n.0 left right can ∙ (λ i. Some (record (same i) { entries = right })) ∙ ap Some (sym moved_node) in
+    split_at_n tree forest o above n.0 left right can ∙ (λ i. Some (record (same i) { entries = right })) ∙ ap Some (sym moved_node) in
     let no_o : times o (numbers (settled (suc (counter tree)) (Child n) (t ∷ steps) news)) ≡ 0 =
-        (let k = counted o in let once = u.once o in let here = times-same o (above ∷ page_numbers pages) in let fresh = there_not_new tree o u.hand.node news u.hand.there (λ x h. c.new.free x (inr h)) in omega (arith, k, once, here, fresh)) in
+    (let k = counted o in let once = u.once o in let here = times-same o (above ∷ page_numbers pages) in let fresh = there_not_new tree o u.hand.node news u.hand.there (λ x h. c.new.free x (inr h)) in omega (arith, k, once, here, fresh)) in
     let no_n : times n.0 (numbers (settled (suc (counter tree)) (Child n) (t ∷ steps) news)) ≡ 0 =
-        (let k = counted n.0 in let old = free_not_up tree b page.page (next ∷ pages) n.0 u.others free in let once = c.new.once n.0 in let here = times-same n.0 (map number_of news) in omega (arith, k, old, once, here)) in
+    (let k = counted n.0 in let old = free_not_up tree b page.page (next ∷ pages) n.0 u.others free in let once = c.new.once n.0 in let here = times-same n.0 (map number_of news) in omega (arith, k, old, once, here)) in
     let told : IsParted o (division to s moves n) (part s.page s moves n) = record {
       old_is = ap (λ (p : PageNo). p.0) c.plan.0.page_is;
       new_is = refl;
@@ -395,10 +394,10 @@ divided_case fanout fan b tree carry to page next pages s t steps n news moves c
       new_box = sym (least_known to moves);
     } in
     let here = divided_rises tree forest o above n.0 left right can (page_numbers pages) (map number_of news) (raised_to (t ∷ steps) news) (divisions (Child n) (t ∷ steps) news) (settled (suc (counter tree)) (Child n) (t ∷ steps) news)
-        (part s.page s moves n) (parts (t ∷ steps) news) (raised (t ∷ steps) news) (left_page (counter tree) to s n) (right_page to s moves) keeps goes counted (root_up tree (above ∷ page_numbers pages) u.up.1) no_o no_n told rest in
+    (part s.page s moves n) (parts (t ∷ steps) news) (raised (t ∷ steps) news) (left_page (counter tree) to s n) (right_page to s moves) keeps goes counted (root_up tree (above ∷ page_numbers pages) u.up.1) no_o no_n told rest in
     subst (λ (x : ℕ). Rises tree (page_numbers (page ∷ next ∷ pages)) (map number_of (n ∷ news)) (raised_to (t ∷ steps) news) (division to s moves n ∷ divisions (Child n) (t ∷ steps) news)
-        ((x, left_page (counter tree) to s n) ∷ (n.0, right_page to s moves) ∷ settled (suc (counter tree)) (Child n) (t ∷ steps) news) (part s.page s moves n ∷ parts (t ∷ steps) news) (raised (t ∷ steps) news))
-        (ap (λ (p : PageNo). p.0) (sym c.plan.0.page_is)) here
+    ((x, left_page (counter tree) to s n) ∷ (n.0, right_page to s moves) ∷ settled (suc (counter tree)) (Child n) (t ∷ steps) news) (part s.page s moves n ∷ parts (t ∷ steps) news) (raised (t ∷ steps) news))
+    (ap (λ (p : PageNo). p.0) (sym c.plan.0.page_is)) here
 
 inner_case : (fanout : ℕ) → IsFanout fanout → (b : Corners) (tree : Tree) (carry : Carry) (to : To) (page next : PathPage) (pages : List PathPage) (s t : Planned) (steps : List Planned) (news : List PageNo) (m : Option (List Entry))
     → CanRise fanout b tree carry to page (next ∷ pages) (s ∷ t ∷ steps) news → moves_of s ≡ m → AllRise fanout b next pages (t ∷ steps)
@@ -433,7 +432,7 @@ root_whole fanout b tree carry to page s c none =
     } in
     let shown : ◌≡◌ {A = ℕ × Node} (page.page.0, c.up.hand.node) (s.page.0, record (whole_page to s) { ssn = counter tree }) = λ i. ((sym c.plan.0.page_is i).0, sym node i) in
     subst (λ (w : ℕ × Node). Rises tree (page.page.0 ∷ []) [] 0 [] (w ∷ []) [] None) shown
-        (whole_rises tree [] page.page.0 c.up.hand.node [] 0 [] [] None c.up.hand.there (rests tree [] 0))
+    (whole_rises tree [] page.page.0 c.up.hand.node [] 0 [] [] None c.up.hand.there (rests tree [] 0))
   where
     ssn_in : Option Node → ℕ
     ssn_in None = 0
@@ -465,12 +464,12 @@ root_divided_case fanout fan b tree carry to page s q n m c is =
     let next : ◌≡◌ {A = Option ℕ} None (link_of s.head.next.0) = sym forest.alone ∙ ap (λ (x : Node). x.next) (sym top) ∙ sym h.next ∙ ap (λ (x : NodeHead). link_of x.next.0) (sym c.plan.0.head_is) in
     let number : forest.top.ssn ≡ counter tree = sym (counter_is tree forest) in
     let at_q : page_at (split (raise tree q.0) q.0 tree.root left right n.0) q.0 ≡ Some (left_page (counter tree) to s n) =
-        divided_q tree forest q.0 n.0 left right may can page_is ∙ (λ i. Some (record { level = level i; ssn = suc (number i); next = sym (link_some n.0 some) i; entries = left })) in
+    divided_q tree forest q.0 n.0 left right may can page_is ∙ (λ i. Some (record { level = level i; ssn = suc (number i); next = sym (link_some n.0 some) i; entries = left })) in
     let at_n : page_at (split (raise tree q.0) q.0 tree.root left right n.0) n.0 ≡ Some (record (right_page to s moves) { ssn = counter tree }) =
-        divided_n tree forest q.0 n.0 left right may can page_is ∙ (λ i. Some (record { level = level i; ssn = number i; next = next i; entries = right })) in
+    divided_n tree forest q.0 n.0 left right may can page_is ∙ (λ i. Some (record { level = level i; ssn = number i; next = next i; entries = right })) in
     let at_root : page_at (split (raise tree q.0) q.0 tree.root left right n.0) tree.root ≡ Some (top_page (counter tree) s moves q n) =
-        divided_root tree forest q.0 n.0 left right may free_q can
-        ∙ (λ i. Some (record { level = suc (level i); ssn = suc (number i); next = None; entries = entry_for (least_known to stays i) q.0 ∷ entry_for (least_known to moves i) n.0 ∷ [] })) in
+    divided_root tree forest q.0 n.0 left right may free_q can
+    ∙ (λ i. Some (record { level = suc (level i); ssn = suc (number i); next = None; entries = entry_for (least_known to stays i) q.0 ∷ entry_for (least_known to moves i) n.0 ∷ [] })) in
     let told : IsParted q.0 (division to s moves n) (part q s moves n) = record {
       old_is = refl;
       new_is = refl;
@@ -481,11 +480,11 @@ root_divided_case fanout fan b tree carry to page s q n m c is =
     let box : m.round ≡ box_of (page_at tree tree.root) = around ∙ sym (least_known to all) ∙ ap least (hand_known tree forest b carry to page [] u) ∙ ap box_of (sym u_there) in
     let here = root_rises tree forest q n.0 left right free_q can (part q s moves n) (left_page (counter tree) to s n) (record (right_page to s moves) { ssn = counter tree }) (top_page (counter tree) s moves q n) m.round at_q at_n at_root told box in
     let placed = subst (λ (o : ℕ). Rises tree (o ∷ []) (q.0 ∷ n.0 ∷ []) q.0 (division to s moves n ∷ [])
-        ((q.0, left_page (counter tree) to s n) ∷ (n.0, record (right_page to s moves) { ssn = counter tree }) ∷ (o, top_page (counter tree) s moves q n) ∷ []) (part q s moves n ∷ []) (Some (record { page = q; round = m.round })))
-        (sym u.up) here in
+    ((q.0, left_page (counter tree) to s n) ∷ (n.0, record (right_page to s moves) { ssn = counter tree }) ∷ (o, top_page (counter tree) s moves q n) ∷ []) (part q s moves n ∷ []) (Some (record { page = q; round = m.round })))
+    (sym u.up) here in
     subst (λ (o : ℕ). Rises tree (page.page.0 ∷ []) (q.0 ∷ n.0 ∷ []) q.0 (division to s moves n ∷ [])
-        ((q.0, left_page (counter tree) to s n) ∷ (n.0, record (right_page to s moves) { ssn = counter tree }) ∷ (o, top_page (counter tree) s moves q n) ∷ []) (part q s moves n ∷ []) (Some (record { page = q; round = m.round })))
-        (ap (λ (p : PageNo). p.0) (sym c.plan.0.page_is)) placed
+    ((q.0, left_page (counter tree) to s n) ∷ (n.0, record (right_page to s moves) { ssn = counter tree }) ∷ (o, top_page (counter tree) s moves q n) ∷ []) (part q s moves n ∷ []) (Some (record { page = q; round = m.round })))
+    (ap (λ (p : PageNo). p.0) (sym c.plan.0.page_is)) placed
   where
     last_some : (n.0 == 0) ≡ false
     last_some = some_page tree n [] (record { free = λ x h. c.new.free x (inr h); once = λ x. fewer_new x q.0 (n.0 ∷ []) (c.new.once x) })

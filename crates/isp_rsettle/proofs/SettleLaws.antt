@@ -1,5 +1,5 @@
 -- A settled plan's pages, over those of the tree, are the pages of the tree in which the entry was placed.
-use Rattle.std.proofs.Common.{◌≡◌, inl, inr, ℕ, ℤ, ◌+◌, ◌<◌, ◌≤◌, ◌==◌, ◌||◌, Bool, true, false, cond, Option, Some, None, List, [], ◌∷◌, ◌++◌, length, map, reverse, refl, sym, ◌∙◌, ap, subst, arith, eqb-true}
+use Rattle.std.proofs.Common.{◌≡◌, ℕ, ℤ, ◌+◌, ◌≤◌, ◌==◌, ◌||◌, Bool, true, false, cond, Option, Some, None, List, [], ◌∷◌, ◌++◌, length, map, reverse, refl, sym, ◌∙◌, ap, subst, arith}
 use Rattle.std.proofs.lemmas.List.{append-nil, reverse-append}
 use Rattle.isp_base.specs.Lists.{Has, times}
 use Rattle.isp_base.specs.declared.page_no.PageNo.{PageNo}
@@ -8,9 +8,9 @@ use Rattle.isp_mbr.specs.Corners.{Corners}
 use Rattle.isp_forest.specs.declared.entry.Entry.{Entry}
 use Rattle.isp_forest.specs.declared.entry.To.TheVariants.{Row}
 use Rattle.isp_forest.specs.Forest.{Forest}
-use Rattle.isp_forest.specs.Place.{Division, IsFree, Names, Stands}
+use Rattle.isp_forest.specs.Place.{IsFree, Stands}
 use Rattle.isp_forest.specs.Steps.{add, added_to, is_among, is_last, names, widened}
-use Rattle.isp_forest.specs.Tree.{Node, Tree, child_of, counter, numbers, page_at, page_in}
+use Rattle.isp_forest.specs.Tree.{Node, Tree, child_of, counter, numbers, page_at}
 use Rattle.isp_laws.proofs.AddLaws.{above_on_path, add_keeps, last_among}
 use Rattle.isp_laws.proofs.ListLaws.{Has-map_of, times-append}
 use Rattle.isp_laws.proofs.PageLaws.{changed, numbers-each, page_in-each, times_free}
@@ -50,7 +50,6 @@ off_path (p ∷ path) x none = by (p == x) none (off_path path x)
 -- ---- a page that isn't on the path is left by the new entry
 
 module _ (tree : Tree) (forest : Forest tree) (path : List ℕ) (stands : Stands tree path) (b : Corners) (key : ℤ) (number : ℕ) where
-
   no_last : (x : ℕ) → is_among path x ≡ false → is_last path x ≡ false
   no_last x off = by (is_last path x) refl
     where
@@ -72,9 +71,9 @@ module _ (tree : Tree) (forest : Forest tree) (path : List ℕ) (stands : Stands
   left_alone : (x : ℕ) (page : Node) → page_at tree x ≡ Some page → is_among path x ≡ false → added_to path b key number x page ≡ page
   left_alone x page there off =
       let entries : map (widened path b) page.entries ++ cond (is_last path x) (record { b = b; to = Row key number } ∷ []) [] ≡ page.entries =
-          ap (λ (t : Bool). map (widened path b) page.entries ++ cond t (record { b = b; to = Row key number } ∷ []) []) (no_last x off)
-          ∙ append-nil (map (widened path b) page.entries)
-          ∙ map_same (widened path b) page.entries (λ e has. widened_none e (names_none x page there off e has (child_of e) refl)) in
+      ap (λ (t : Bool). map (widened path b) page.entries ++ cond t (record { b = b; to = Row key number } ∷ []) []) (no_last x off)
+      ∙ append-nil (map (widened path b) page.entries)
+      ∙ map_same (widened path b) page.entries (λ e has. widened_none e (names_none x page there off e has (child_of e) refl)) in
       λ i. record { level = page.level; ssn = page.ssn; next = page.next; entries = entries i }
 
   pub added_off : (x : ℕ) → is_among path x ≡ false → page_at (add tree path b key number) x ≡ page_at tree x
@@ -130,8 +129,8 @@ settles_path fanout tree b key number pages steps news c =
     } in
     let risen = all_rise fanout c.fan b begun.leaf begun.above steps grown (Added b) (Row key number) news can in
     let r = subst (λ (k : ℕ). Rises grown (reverse path) (map number_of news) (raised_to steps news) (divisions (Row key number) steps news) (settled k (Row key number) steps news) (parts steps news) (raised steps news))
-        (grown_counter tree c.forest path c.stands b key number)
-        (subst (λ (l : List ℕ). Rises grown l (map number_of news) (raised_to steps news) (divisions (Row key number) steps news) (settled (counter grown) (Row key number) steps news) (parts steps news) (raised steps news)) up risen) in
+    (grown_counter tree c.forest path c.stands b key number)
+    (subst (λ (l : List ℕ). Rises grown l (map number_of news) (raised_to steps news) (divisions (Row key number) steps news) (settled (counter grown) (Row key number) steps news) (parts steps news) (raised steps news)) up risen) in
     let due : AreDue fanout grown (reverse path) (Row key number) steps news = plan_divides fanout tree pages b key number steps news (record {
       fan = c.fan;
       forest = c.forest;
@@ -145,9 +144,9 @@ settles_path fanout tree b key number pages steps news c =
       enough = (let k = c.count in omega (arith, k));
     }) in
     let are : (x : ℕ) → times x (numbers (settled (counter tree) (Row key number) steps news)) ≡ times x path + times x (map number_of news) = λ x. (
-        let k = numbered fanout b (begun.leaf ∷ begun.above) (Added b) steps (counter tree) (Row key number) news plan c.count x in
-        let same : times x (page_numbers (begun.leaf ∷ begun.above)) ≡ times x (page_numbers pages) = ap (times x) up ∙ times_reverse x (page_numbers pages) in
-        omega (arith, k, same)) in
+    let k = numbered fanout b (begun.leaf ∷ begun.above) (Added b) steps (counter tree) (Row key number) news plan c.count x in
+    let same : times x (page_numbers (begun.leaf ∷ begun.above)) ≡ times x (page_numbers pages) = ap (times x) up ∙ times_reverse x (page_numbers pages) in
+    omega (arith, k, same)) in
     record {
       can = due.can;
       divides = due.all;
@@ -172,4 +171,4 @@ pub settles : Settles
 settles fanout tree path b key number pages steps news c =
     let same : path ≡ page_numbers pages = sym c.are.numbers ∙ numbers_are pages in
     subst (λ (l : List ℕ). IsSettled fanout tree l b key number steps news) (sym same)
-        (settles_path fanout tree b key number pages steps news (subst (λ (l : List ℕ). CanSettle fanout tree l b pages steps news) same c))
+    (settles_path fanout tree b key number pages steps news (subst (λ (l : List ℕ). CanSettle fanout tree l b pages steps news) same c))

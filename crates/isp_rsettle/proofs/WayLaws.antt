@@ -1,5 +1,5 @@
 -- A plan is settled page by page: what stands on the lists so far, with what is to come.
-use Rattle.std.proofs.Common.{◌≡◌, inl, inr, ℕ, suc, ◌+◌, ◌*◌, ◌<◌, ◌≤◌, Option, Some, None, List, [], ◌∷◌, ◌++◌, length, length-append, map, reverse, drop, get_or, refl, sym, ◌∙◌, ap, subst, arith}
+use Rattle.std.proofs.Common.{◌≡◌, inl, ℕ, suc, ◌+◌, ◌*◌, ◌<◌, ◌≤◌, Option, Some, None, List, [], ◌∷◌, ◌++◌, length, length-append, map, reverse, drop, get_or, refl, sym, ◌∙◌, ap, subst, arith}
 use Rattle.std.specs.Option.{option_map}
 use Rattle.std.proofs.lemmas.List.{append_assoc, append-nil, drop_more, length-map, length-reverse, reverse-append}
 use Rattle.isp_base.specs.Lists.{Has}
@@ -88,7 +88,6 @@ counted_one counter (Some moves) = omega arith
 -- the last of the steps is taken, and others are left
 module _ (all : List Planned) (news : List PageNo) (counter : ℕ) (to : To) (steps rest : List Planned) (s : Planned) (now : ℕ) (leads : To) (taken : ℕ) (written : List Settled) (told : List Parted) (most_written most_told : ℕ)
     (popped : steps ≡ rest ++ s ∷ []) (way : OnWay all news counter to steps now leads taken written told most_written most_told) where
-
   turned : reverse steps ≡ s ∷ reverse rest
   turned = ap reverse popped ∙ reverse-append rest (s ∷ [])
 
@@ -211,8 +210,8 @@ root_list counter to s m q n left old top stays moves root two left_is old_is to
     let up : s.head.level + 1 ≡ suc s.head.level = omega arith in
     (λ i. (q.0, node_with (left_is i) (stays_is i)) ∷ (n.0, node_with (old_is i) (moves_is i)) ∷ (s.page.0, node_with (top_is i) ((root_is ∙ ap (λ (p : Parted). entry_for p.old_box p.old.0 ∷ entry_for p.new_box p.new.0 ∷ []) two_is) i)) ∷ [])
     ∙ (λ i. (q.0, record { level = s.head.level; ssn = next i; next = link_of n.0; entries = stays_of to s })
-        ∷ (n.0, record (right_page to s m.entries.items) { ssn = counter })
-        ∷ (s.page.0, record { level = up i; ssn = next i; next = None; entries = entry_for (least s.stays.items) q.0 ∷ entry_for (least m.entries.items) n.0 ∷ [] }) ∷ [])
+    ∷ (n.0, record (right_page to s m.entries.items) { ssn = counter })
+    ∷ (s.page.0, record { level = up i; ssn = next i; next = None; entries = entry_for (least s.stays.items) q.0 ∷ entry_for (least m.entries.items) n.0 ∷ [] }) ∷ [])
 
 pub two_pages : (news : List PageNo) (taken : ℕ) (d e : PageNo) → taken + 2 ≤ length news → drop taken news ≡ get_or news taken d ∷ get_or news (taken + 1) e ∷ drop (taken + 1 + 1) news
 two_pages news taken d e enough = drop_more news taken d (omega (arith, enough)) ∙ ap (λ (l : List PageNo). get_or news taken d ∷ l) (drop_more news (taken + 1) e (omega (arith, enough)))

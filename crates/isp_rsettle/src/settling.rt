@@ -43,13 +43,7 @@ fn needed(step: &Planned) -> usize
 /// What becomes of a plan, which is given from the root down, once the new entry's number and its new pages are known: these in
 /// their order from the leaf up, where the page of a raised root's content stands before its right page. The counter is the root's
 /// sequence number.
-pub fn settle(
-    steps: Vec<Planned>,
-    news: &[PageNo],
-    counter: u64,
-    to: To,
-    room: Room,
-) -> Outcome
+pub fn settle(steps: Vec<Planned>, news: &[PageNo], counter: u64, to: To, room: Room) -> Outcome
     requires enough { pages_needed (reverse steps.items) ≤ length news.now }
     requires numbers { counter + length steps.items < number_limit }
     requires low { AreLow steps.items }
@@ -307,13 +301,7 @@ fn known(e: Entry, to: To) -> Entry
     ensures { result ≡ known to e }
 {
     match e.to {
-        To::Child(page) => {
-            if page.0 == 0 {
-                Entry { b: e.b, to }
-            } else {
-                e
-            }
-        }
+        To::Child(page) => { if page.0 == 0 { Entry { b: e.b, to } } else { e } }
         To::Row { .. } => e,
     }
 }
