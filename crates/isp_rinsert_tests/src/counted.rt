@@ -1,5 +1,5 @@
 //! Pages in memory that note which of them are read and changed.
-ghost use Rattle.std.specs.Prelude.{◌≡◌, [], true, ⊥};
+ghost use Rattle.std.specs.Prelude.{◌≡◌, [], true};
 
 use isp_format::{Page, PageNo};
 use isp_page::{MemPages, Pages, StoreFault};

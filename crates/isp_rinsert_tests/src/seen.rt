@@ -3,7 +3,7 @@ ghost use Rattle.std.specs.Prelude.{◌≡◌, true, OnOk};
 ghost use Rattle.isp_page.specs.State.{none_begun};
 
 use crate::putting::box_of;
-use crate::stages::{Grown, Leaf, Part, Spot, Stage, Told};
+use crate::stages::{Grown, Leaf, Lifted, Part, Spot, Stage, Told};
 use isp_format::PageNo;
 use isp_page::{Fault, Pages};
 use isp_rinsert::{Changes, Growth, Parted, Raised};
@@ -117,11 +117,16 @@ fn are_parts(divisions: &[Parted], parts: &[Part]) -> bool {
     true
 }
 
+// Whether that is what took a root's content.
+fn is_lifted(raised: &Raised, lifted: &Lifted) -> bool {
+    raised.page.0 == lifted.page && Some(raised.round) == box_of(lifted.round)
+}
+
 // Whether the root was raised so.
-fn is_raised(raised: Option<Raised>, told: Option<(u32, [i32; 4])>) -> bool {
+fn is_raised(raised: Option<Raised>, told: &[Lifted]) -> bool {
     match (raised, told) {
-        (Some(r), Some((page, round))) => r.page.0 == page && Some(r.round) == box_of(round),
-        (None, None) => true,
+        (Some(r), [lifted]) => is_lifted(&r, lifted),
+        (None, []) => true,
         _ => false,
     }
 }

@@ -35,12 +35,19 @@ pub(crate) struct Part {
     pub new_box: [i32; 4],
 }
 
-/// What is told of an insert.
+/// The page that takes what a raised root held, and the corners round all of it.
+#[derive(Clone, Copy)]
+pub(crate) struct Lifted {
+    pub page: u32,
+    pub round: [i32; 4],
+}
+
+/// What is told of an insert. Where no root is raised, `raised` is empty.
 #[derive(Clone, Copy)]
 pub(crate) struct Told {
     pub number: u64,
     pub growths: &'static [Grown],
-    pub raised: Option<(u32, [i32; 4])>,
+    pub raised: &'static [Lifted],
     pub divisions: &'static [Part],
 }
 
@@ -96,7 +103,10 @@ pub(crate) static STAGES: [Stage; 7] = [
         told: Told {
             number: 4,
             growths: &[],
-            raised: Some((17, [0, 0, 10, 10])),
+            raised: &[Lifted {
+                page: 17,
+                round: [0, 0, 10, 10],
+            }],
             divisions: &[Part {
                 old: 17,
                 new: 18,
@@ -156,7 +166,7 @@ pub(crate) static STAGES: [Stage; 7] = [
                 old: [0, 0, 10, 5],
                 new: [0, 0, 10, 5],
             }],
-            raised: None,
+            raised: &[],
             divisions: &[Part {
                 old: 17,
                 new: 19,
@@ -272,7 +282,10 @@ pub(crate) static STAGES: [Stage; 7] = [
                 old: [0, 10, 10, 10],
                 new: [0, 10, 10, 10],
             }],
-            raised: Some((22, [0, 0, 10, 10])),
+            raised: &[Lifted {
+                page: 22,
+                round: [0, 0, 10, 10],
+            }],
             divisions: &[
                 Part {
                     old: 18,
@@ -327,7 +340,10 @@ pub(crate) static STAGES: [Stage; 7] = [
         told: Told {
             number: 4,
             growths: &[],
-            raised: Some((19, [0, 0, 10, 10])),
+            raised: &[Lifted {
+                page: 19,
+                round: [0, 0, 10, 10],
+            }],
             divisions: &[Part {
                 old: 19,
                 new: 20,
@@ -387,7 +403,7 @@ pub(crate) static STAGES: [Stage; 7] = [
                 old: [0, 0, 10, 5],
                 new: [0, 0, 10, 5],
             }],
-            raised: None,
+            raised: &[],
             divisions: &[Part {
                 old: 19,
                 new: 21,
@@ -434,7 +450,10 @@ pub(crate) static STAGES: [Stage; 7] = [
         told: Told {
             number: 4,
             growths: &[],
-            raised: Some((17, [0, 0, 11, 11])),
+            raised: &[Lifted {
+                page: 17,
+                round: [0, 0, 11, 11],
+            }],
             divisions: &[Part {
                 old: 17,
                 new: 18,
@@ -507,7 +526,7 @@ pub(crate) static STAGES: [Stage; 7] = [
                 old: [9, 9, 12, 12],
                 new: [9, 9, 13, 13],
             }],
-            raised: None,
+            raised: &[],
             divisions: &[Part {
                 old: 18,
                 new: 19,
