@@ -8,8 +8,6 @@
 #[cfg(test)]
 mod finding;
 #[cfg(test)]
-mod inserting;
-#[cfg(test)]
 mod making;
 #[cfg(test)]
 mod removing;
