@@ -17,13 +17,13 @@ pub(crate) const FANOUT_PLACE: usize = 12;
 pub const MADE_GATE: usize = 63;
 
 /// The least number of pages of a file.
-pub(crate) const LEAST_PAGES: u32 = 64;
+pub const LEAST_PAGES: u32 = 64;
 
 /// The greatest number of pages of a file.
-pub(crate) const MOST_PAGES: u32 = 65_536;
+pub const MOST_PAGES: u32 = 65_536;
 
 /// The least fan-out.
-pub(crate) const LEAST_FANOUT: u32 = 4;
+pub const LEAST_FANOUT: u32 = 4;
 
 /// The greatest fan-out.
 pub const MOST_FANOUT: u32 = 120;

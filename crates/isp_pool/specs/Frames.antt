@@ -6,16 +6,13 @@ use Rattle.isp_format.specs.Ranges.{page_bytes}
 use Rattle.isp_format.specs.declared.page.Page.{Page}
 use Rattle.isp_base.specs.declared.page_no.PageNo.{PageNo}
 use Rattle.isp_recency.specs.Recent.{has, without, last_where}
+pub use Rattle.isp_recency.specs.Recent.{most_frames}
 use Rattle.isp_pool.specs.declared.frames.Frame.{Frame}
 
 -- the frames by number, None where one is free, and the numbers of the others, the last used first
 pub record PoolState : Type 0 where
   pub frames : List (Option Frame)
   pub recent : List ℕ
-
--- how many frames a pool has at most
-abbrev pub most_frames : ℕ
-most_frames = 4096
 
 -- the frame of a number; past the last one there is none
 abbrev pub frame_in : List (Option Frame) → ℕ → Option Frame

@@ -3,6 +3,10 @@ use Rattle.std.specs.Prelude.{ℕ, ◌≡◌, ◌<◌, ◌≤◌, ◌==◌, Bool
 use Rattle.std.specs.List.{list_any, IsDistinct}
 use Rattle.std.specs.Option.{option_or}
 
+-- how many numbers there are at most: those of the frames of a pool
+abbrev pub most_frames : ℕ
+most_frames = 4096
+
 -- all numbers that may come are below the size; the members, the last used first
 pub record RecencyList : Type 0 where
   pub size : ℕ
@@ -24,6 +28,6 @@ last_where test (x ∷ xs) = option_or (last_where test xs) (if test x then Some
 -- what holds of every recency list
 pub record IsRecency (r : RecencyList) : Type 0 where
   pub least : 0 < r.size
-  pub most : r.size ≤ 4096
+  pub most : r.size ≤ most_frames
   pub distinct : IsDistinct nat_eq r.members
   pub below : (i : ℕ) → has r.members i ≡ true → i < r.size

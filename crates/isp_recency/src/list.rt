@@ -2,7 +2,7 @@
 
 ghost use Rattle.std.specs.Prelude.{◌≡◌, ℕ, ◌+◌, ◌-◌, ◌<◌, ◌≤◌, ◌==◌, true, false, IfOk, [], ◌∷◌, length, slice_index_or};
 ghost use Rattle.std.specs.List.{position};
-ghost use Rattle.isp_recency.specs.Recent.{has, without, last_where, IsRecency};
+ghost use Rattle.isp_recency.specs.Recent.{has, without, last_where, most_frames, IsRecency};
 
 use std::alloc::{AllocError, Global};
 use std::collections::VecDeque;
@@ -33,7 +33,7 @@ impl Recency {
     /// The empty list, for numbers below `n`, which is 1 to 4,096. Only this takes memory: room for all of them.
     pub fn new(alloc: Global, n: usize) -> Result<Recency, AllocError>
         requires least { 0 < n }
-        requires most { n ≤ 4096 }
+        requires most { n ≤ most_frames }
         ensures { IfOk result (λ r. r ≡ record { size = n; members = [] }) }
     {
         let members = VecDeque::with_capacity(alloc, n)?;

@@ -5,6 +5,7 @@ use Rattle.std.specs.Char.{is_ascii_digit}
 use Rattle.std.specs.List.{list_all}
 use Rattle.std.specs.Str.{bytes_eq}
 use Rattle.std.specs.Str.Parse.{digits_value}
+use Rattle.isp_format.specs.Control.{least_fanout, least_pages, most_fanout, most_pages}
 use Rattle.isp_words.specs.declared.Command.{Command}
 use Rattle.isp_words.specs.declared.Command.TheVariants as commands
 
@@ -35,13 +36,20 @@ number_in least most word = if is_count word && nat_le least (digits_value 10 wo
 -- `--pages N --fanout M`
 abbrev pub made_of : List ℕ → List ℕ → List ℕ → List ℕ → Option Command
 made_of option pages other fanout = if bytes_eq option pages_option && bytes_eq other fanout_option
-    then option_and_then (λ n. option_and_then (λ m. Some (commands.Make n m)) (number_in 4 120 fanout)) (number_in 64 65536 pages)
+    then option_and_then (λ n. option_and_then (λ m. Some (commands.Make n m)) (number_in least_fanout most_fanout fanout)) (number_in least_pages most_pages pages)
     else None
+
+-- how many pages a `run` may hold in memory
+abbrev pub least_frames : ℕ
+least_frames = 64
+
+abbrev pub most_frames : ℕ
+most_frames = 4096
 
 -- `--frames F`
 abbrev pub framed_of : List ℕ → List ℕ → Option Command
 framed_of option frames = if bytes_eq option frames_option
-    then option_and_then (λ f. Some (commands.Run f)) (number_in 64 4096 frames)
+    then option_and_then (λ f. Some (commands.Run f)) (number_in least_frames most_frames frames)
     else None
 
 -- the options of `make`

@@ -6,6 +6,8 @@ ghost use Rattle.std.specs.Char.{is_ascii_digit};
 ghost use Rattle.std.specs.List.{list_all};
 ghost use Rattle.isp_words.specs.Commands.{asked, command_of, framed_of, is_count, made_of, make_of, number_in, run_of};
 
+use isp_format::{LEAST_FANOUT, LEAST_PAGES, MOST_FANOUT, MOST_PAGES};
+
 /// A command of the program, on a database file.
 #[derive(Clone, Copy, Debug, PartialEq, Eq)]
 pub enum Command {
@@ -17,6 +19,11 @@ pub enum Command {
 
 /// How many pages a `run` holds in memory where the words don't say it.
 pub const FRAMES: u32 = 256;
+
+// The least number of them, and the greatest.
+const LEAST_FRAMES: u32 = 64;
+
+const MOST_FRAMES: u32 = 4_096;
 
 // Whether all characters of a word are decimal digits.
 fn all_digits(word: &str) -> bool
@@ -60,8 +67,8 @@ fn made_of(option: &str, pages: &str, other: &str, fanout: &str) -> Option<Comma
     if option != "--pages" || other != "--fanout" {
         return None;
     }
-    let pages = number(pages, 64, 65_536)?;
-    let fanout = number(fanout, 4, 120)?;
+    let pages = number(pages, LEAST_PAGES, MOST_PAGES)?;
+    let fanout = number(fanout, LEAST_FANOUT, MOST_FANOUT)?;
     Some(Command::Make { pages, fanout })
 }
 
@@ -73,7 +80,7 @@ fn framed_of(option: &str, frames: &str) -> Option<Command>
     if option != "--frames" {
         return None;
     }
-    let frames = number(frames, 64, 4_096)?;
+    let frames = number(frames, LEAST_FRAMES, MOST_FRAMES)?;
     Some(Command::Run { frames })
 }
 
