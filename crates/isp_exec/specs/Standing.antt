@@ -23,31 +23,31 @@ use Rattle.isp_work.specs.Finding.{reads}
 use Rattle.isp_work.specs.Works.{is_delete, is_ready, rows_left, rows_named, stage_of}
 use Rattle.isp_work.specs.declared.phase.Phase.{Phase as WorkPhase}
 use Rattle.isp_work.specs.declared.phase.Phase.TheVariants.{Creating, Reading, Looking, Changing, Undoing, Ready}
-use Rattle.isp_work.specs.declared.work.Work.{Work}
+use Rattle.isp_work.specs.declared.progress.Progress.{Progress}
 
 -- ---- whatever the pages hold
 
 -- the table at its place is defined so
-pub record IsReading (defs : List TableDef) (work : Work) : Type 0 where
+pub record IsReading (defs : List TableDef) (work : Progress) : Type 0 where
   pub def : TableDef
   pub is_there : slice_get defs work.place ≡ Some def
   pub reads_rows : reads work.statement ≡ true
   pub first : work.next ≡ 0
   pub sets : SetsFitIn def.schema work.statement
 
-pub record IsLooking (defs : List TableDef) (work : Work) : Type 0 where
+pub record IsLooking (defs : List TableDef) (work : Progress) : Type 0 where
   pub def : TableDef
   pub is_there : slice_get defs work.place ≡ Some def
   pub inserts : is_insert work.statement ≡ true
   pub rows : AllByRecursion (IsPutRow def.schema) (rows_named work.statement work.rows)
 
 -- rows that are deleted need not be spelled
-pub record IsChanging (defs : List TableDef) (work : Work) : Type 0 where
+pub record IsChanging (defs : List TableDef) (work : Progress) : Type 0 where
   pub def : TableDef
   pub is_there : slice_get defs work.place ≡ Some def
   pub rows : is_delete work.statement ≡ false → AllByRecursion (IsPutRow def.schema) (rows_named work.statement work.rows)
 
-abbrev pub IsFitIn : List TableDef → Work → WorkPhase → Type 0
+abbrev pub IsFitIn : List TableDef → Progress → WorkPhase → Type 0
 IsFitIn defs work Creating = IsCreatable defs work.statement
 IsFitIn defs work Reading = IsReading defs work
 IsFitIn defs work Looking = IsLooking defs work
@@ -56,7 +56,7 @@ IsFitIn defs work (Undoing refusal) = Unit {0}
 IsFitIn defs work Ready = Unit {0}
 
 -- what it is to write fits the columns of its table
-abbrev pub IsFit : List TableDef → Work → Type 0
+abbrev pub IsFit : List TableDef → Progress → Type 0
 IsFit defs work = IsFitIn defs work work.phase
 
 -- ---- how many steps are left at most
@@ -65,7 +65,7 @@ IsFit defs work = IsFitIn defs work work.phase
 abbrev pub most_rows : ℕ
 most_rows = 2 ^ 70
 
-abbrev pub height_in : Work → ℕ → WorkPhase → ℕ
+abbrev pub height_in : Progress → ℕ → WorkPhase → ℕ
 height_in work noted Creating = noted + 2
 height_in work noted Reading = most_rows + noted
 height_in work noted Looking = 3 * length (rows_left work) + noted + 3
@@ -74,11 +74,11 @@ height_in work noted (Undoing refusal) = noted + 1
 height_in work noted Ready = 0
 
 -- where so many changes are noted
-abbrev pub height : Work → ℕ → ℕ
+abbrev pub height : Progress → ℕ → ℕ
 height work noted = height_in work (noted - work.base) work.phase
 
 -- a step of one that isn't ready leaves fewer
-abbrev pub Falls : Work → TrxState → Work → TrxState → Type 0
+abbrev pub Falls : Progress → TrxState → Progress → TrxState → Type 0
 Falls work trx work_now trx_now = is_ready work.phase ≡ false → height work_now trx_now.count < height work trx.count
 
 -- ---- on a database
@@ -100,7 +100,7 @@ writes Changing = true
 writes _ = false
 
 -- the rows that are left can be written, where they come next
-abbrev pub AreWritableNow : Work → Database → Type 0
+abbrev pub AreWritableNow : Progress → Database → Type 0
 AreWritableNow work d = writes work.phase ≡ true → AreWritable (is_delete work.statement) work.place (rows_left work) d
 
 -- It leads to what the statement does on the tables that it began on, or to a full file, which is one for its cause.
@@ -110,7 +110,7 @@ pub record Leads (pages : ℕ) (start d : Database) (statement : Statement) (sta
   pub cause : full ≡ true → FillsUp pages start d
 
 -- The statement, begun on a database, stands on another one on the way from it, on its own way to what it does.
-pub record IsAt {S : Type 0} (g : Ghosts S) (now : S) (defs : List TableDef) (trx : TrxState) (start : Database) (work : Work) : Type 0 where
+pub record IsAt {S : Type 0} (g : Ghosts S) (now : S) (defs : List TableDef) (trx : TrxState) (start : Database) (work : Progress) : Type 0 where
   pub db : Database
   pub opened : IsOpen g now defs trx db
   pub reaches : Reaches (g.shape now).pages start db

@@ -15,7 +15,7 @@ use isp_page::{Fault, Pages};
 use isp_plain::Statement;
 use isp_tables::Tables;
 use isp_trx::Trx;
-use isp_work::Work;
+use isp_work::Progress;
 use std::alloc::Global;
 
 // The place of the table that the statement is on.
@@ -32,12 +32,12 @@ fn place_for(tables: &Tables, statement: &Statement) -> Option<usize>
 }
 
 /// A statement that is bound to these tables, of which nothing is done yet. It takes no memory, and reads no page.
-pub fn start(alloc: Global, tables: &Tables, trx: &Trx, statement: Statement) -> Work
+pub fn start(alloc: Global, tables: &Tables, trx: &Trx, statement: Statement) -> Progress
     ensures { result ≡ start_of statement trx.now.count
         (place_by tables.now statement) }
 {
     let place = place_for(tables, &statement);
-    Work::start(alloc, statement, place, trx.undo_count())
+    Progress::start(alloc, statement, place, trx.undo_count())
 }
 
 /// Does the steps of a statement, until it is ready.
@@ -50,7 +50,7 @@ pub fn run<P: Pages>(
     pages: &mut P,
     tables: &mut Tables,
     trx: &mut Trx,
-    work: &mut Work,
+    work: &mut Progress,
 ) -> Result<(), Fault>
     requires serves { Serves P.Pages pages.old tables.old }
     requires fit { IsFit tables.old work.old }

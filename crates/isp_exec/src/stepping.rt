@@ -27,7 +27,7 @@ use isp_plain::{Refusal, Row};
 use isp_scan::{is_taken, key_of, read_rows};
 use isp_tables::{Tables, create};
 use isp_trx::Trx;
-use isp_work::{Changed, Found, Looked, Phase, Work};
+use isp_work::{Changed, Found, Looked, Phase, Progress};
 use isp_writes::{undo_newest, write_row};
 use std::alloc::Global;
 
@@ -46,7 +46,7 @@ fn read_next<P: Pages>(
     alloc: Global,
     pages: &mut P,
     tables: &Tables,
-    work: &Work,
+    work: &Progress,
 ) -> Result<Found, Fault>
     requires serves { Serves P.Pages pages.old tables.now }
     requires reading { IsReading tables.now work.now }
@@ -101,7 +101,7 @@ fn look_next<P: Pages>(
     alloc: Global,
     pages: &mut P,
     tables: &Tables,
-    work: &Work,
+    work: &Progress,
 ) -> Result<Looked, Fault>
     requires serves { Serves P.Pages pages.old tables.now }
     requires looking { IsLooking tables.now work.now }
@@ -167,7 +167,7 @@ fn change_next<P: Pages>(
     pages: &mut P,
     tables: &Tables,
     trx: &mut Trx,
-    work: &Work,
+    work: &Progress,
 ) -> Result<Changed, Fault>
     requires serves { Serves P.Pages pages.old tables.now }
     requires changing { IsChanging tables.now work.now }
@@ -199,7 +199,7 @@ fn step_creating<P: Pages>(
     pages: &mut P,
     tables: &mut Tables,
     trx: &Trx,
-    work: &mut Work,
+    work: &mut Progress,
 ) -> Result<(), Fault>
     requires serves { Serves P.Pages pages.old tables.old }
     requires phase { work.old.phase ≡ phase.Creating }
@@ -228,7 +228,7 @@ fn step_reading<P: Pages>(
     pages: &mut P,
     tables: &Tables,
     trx: &Trx,
-    work: &mut Work,
+    work: &mut Progress,
 ) -> Result<(), Fault>
     requires serves { Serves P.Pages pages.old tables.now }
     requires phase { work.old.phase ≡ phase.Reading }
@@ -257,7 +257,7 @@ fn step_looking<P: Pages>(
     pages: &mut P,
     tables: &Tables,
     trx: &Trx,
-    work: &mut Work,
+    work: &mut Progress,
 ) -> Result<(), Fault>
     requires serves { Serves P.Pages pages.old tables.now }
     requires phase { work.old.phase ≡ phase.Looking }
@@ -286,7 +286,7 @@ fn step_changing<P: Pages>(
     pages: &mut P,
     tables: &Tables,
     trx: &mut Trx,
-    work: &mut Work,
+    work: &mut Progress,
 ) -> Result<(), Fault>
     requires serves { Serves P.Pages pages.old tables.now }
     requires phase { work.old.phase ≡ phase.Changing }
@@ -315,7 +315,7 @@ fn step_undoing<P: Pages>(
     pages: &mut P,
     tables: &Tables,
     trx: &mut Trx,
-    work: &mut Work,
+    work: &mut Progress,
     refusal: Refusal,
 ) -> Result<(), Fault>
     requires serves { Serves P.Pages pages.old tables.now }
@@ -350,7 +350,7 @@ pub fn step<P: Pages>(
     pages: &mut P,
     tables: &mut Tables,
     trx: &mut Trx,
-    work: &mut Work,
+    work: &mut Progress,
 ) -> Result<(), Fault>
     requires serves { Serves P.Pages pages.old tables.old }
     requires fit { IsFit tables.old work.old }

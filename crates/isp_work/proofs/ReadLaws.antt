@@ -32,7 +32,7 @@ use Rattle.isp_work.specs.declared.found.Found.{Found}
 use Rattle.isp_work.specs.declared.found.Found.TheVariants as found
 use Rattle.isp_work.specs.declared.phase.Phase.{Phase as WorkPhase}
 use Rattle.isp_work.specs.declared.phase.Phase.TheVariants.{Creating, Reading, Looking, Changing, Undoing, Ready}
-use Rattle.isp_work.specs.declared.work.Work.{Work}
+use Rattle.isp_work.specs.declared.progress.Progress.{Progress}
 use Rattle.isp_work.proofs.StageLaws.{behind, failed_stage, has_noted, step_at, went_phase}
 
 -- ---- rows that hold
@@ -91,7 +91,7 @@ deleted_changes place (e ∷ rows) keyed = (λ i. replacing place (keyed.0 i) No
 
 -- ---- its table is read
 
-abbrev pub reading_work : Statement → ℕ → List Row → ℕ → Reply → Work
+abbrev pub reading_work : Statement → ℕ → List Row → ℕ → Reply → Progress
 reading_work s place rows base answer = record { statement = s; place = place; rows = rows; next = 0; base = base; phase = Reading; reply = answer }
 
 updated_step : (tables : List Table) (noted : List RowChange) (table : Table) (name : List ℕ) (sets : List Assign) (w : Condition) (place base count : ℕ) (rows : List Row) (answer : Reply) (b : Bool)
@@ -130,13 +130,13 @@ read_step Commit tables noted table place base count rows answer is some there k
 read_step Rollback tables noted table place base count rows answer is some there keyed keeps = cc
 read_step (Refused refusal) tables noted table place base count rows answer is some there keyed keeps = cc
 
-pub read_stage : (tables : List Table) (noted : List RowChange) (work : Work) (count : ℕ) (table : Table) → nat_lt work.base count ≡ has_noted noted → work.phase ≡ Reading → work.next ≡ 0 → reads work.statement ≡ true
+pub read_stage : (tables : List Table) (noted : List RowChange) (work : Progress) (count : ℕ) (table : Table) → nat_lt work.base count ≡ has_noted noted → work.phase ≡ Reading → work.next ≡ 0 → reads work.statement ≡ true
     → slice_get tables work.place ≡ Some table → AreKeyed table.rows → KeepsKeysIn table.schema work.statement table.rows
     → stage_of tables noted (took work (found_in table.schema work.statement table.rows) count) ≡ after_step work.statement true (stage_of tables noted work)
 read_stage tables noted work count table some phase next is there keyed keeps =
     let same : reading_work work.statement work.place work.rows work.base work.reply ≡ work =
     sym (λ i. record { statement = work.statement; place = work.place; rows = work.rows; next = next i; base = work.base; phase = phase i; reply = work.reply }) in
-    subst (λ (w : Work). stage_of tables noted (took w (found_in table.schema work.statement table.rows) count) ≡ after_step work.statement true (stage_of tables noted w)) same
+    subst (λ (w : Progress). stage_of tables noted (took w (found_in table.schema work.statement table.rows) count) ≡ after_step work.statement true (stage_of tables noted w)) same
     (read_step work.statement tables noted table work.place work.base count work.rows work.reply is some there keyed keeps)
 
 -- ---- it begins

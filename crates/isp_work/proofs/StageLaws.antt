@@ -31,7 +31,7 @@ use Rattle.isp_work.specs.declared.found.Looked.{Looked}
 use Rattle.isp_work.specs.declared.found.Looked.TheVariants as looked
 use Rattle.isp_work.specs.declared.phase.Phase.{Phase as WorkPhase}
 use Rattle.isp_work.specs.declared.phase.Phase.TheVariants.{Creating, Reading, Looking, Changing, Undoing, Ready}
-use Rattle.isp_work.specs.declared.work.Work.{Work}
+use Rattle.isp_work.specs.declared.progress.Progress.{Progress}
 
 -- ---- the rest of a list
 
@@ -73,33 +73,33 @@ one_more n = omega arith
 -- ---- the next row, or the answer
 
 -- another phase and another answer leave the rest
-pub record SameParts (work new : Work) : Type 0 where
+pub record SameParts (work new : Progress) : Type 0 where
   pub statement : new.statement ≡ work.statement
   pub place : new.place ≡ work.place
   pub rows : new.rows ≡ work.rows
   pub next : new.next ≡ work.next
   pub base : new.base ≡ work.base
 
-pub went_same : (work : Work) → SameParts work (went_on work)
+pub went_same : (work : Progress) → SameParts work (went_on work)
 went_same work = by (nat_lt work.next (length (rows_named work.statement work.rows)))
   where
     by : (b : Bool) → SameParts work (if b then record work { phase = first_of (is_insert work.statement) } else answered work (reply.Count work.next))
     by true = record { statement = refl; place = refl; rows = refl; next = refl; base = refl }
     by false = record { statement = refl; place = refl; rows = refl; next = refl; base = refl }
 
-pub failed_same : (work : Work) (refusal : Refusal) (noted : ℕ) → SameParts work (failed_by work refusal noted)
+pub failed_same : (work : Progress) (refusal : Refusal) (noted : ℕ) → SameParts work (failed_by work refusal noted)
 failed_same work refusal noted = by (nat_lt work.base noted)
   where
     by : (b : Bool) → SameParts work (if b then record work { phase = Undoing refusal } else answered work (reply.Err refusal))
     by true = record { statement = refl; place = refl; rows = refl; next = refl; base = refl }
     by false = record { statement = refl; place = refl; rows = refl; next = refl; base = refl }
 
-first_left : (tables : List Table) (work : Work) (free : Bool) (change : RowChange) (left : List RowChange) → changes_ahead work ≡ change ∷ left
+first_left : (tables : List Table) (work : Progress) (free : Bool) (change : RowChange) (left : List RowChange) → changes_ahead work ≡ change ∷ left
     → phase_at tables (record work { phase = first_of free }) (first_of free) ≡ changes_left free work.next (changes_ahead work)
 first_left tables work true change left ahead = ap (looking work.next) ahead ∙ sym (ap (changes_left true work.next) ahead)
 first_left tables work false change left ahead = ap (changing work.next) ahead ∙ sym (ap (changes_left false work.next) ahead)
 
-pub went_phase : (tables : List Table) (work : Work) → phase_at tables (went_on work) (went_on work).phase ≡ changes_left (is_insert work.statement) work.next (changes_ahead work)
+pub went_phase : (tables : List Table) (work : Progress) → phase_at tables (went_on work) (went_on work).phase ≡ changes_left (is_insert work.statement) work.next (changes_ahead work)
 went_phase tables work = by (nat_lt work.next (length (rows_named work.statement work.rows))) refl
   where
     by : (b : Bool) → nat_lt work.next (length (rows_named work.statement work.rows)) ≡ b
@@ -117,20 +117,20 @@ abbrev pub has_noted : List RowChange → Bool
 has_noted [] = false
 has_noted (image ∷ noted) = true
 
-pub failed_stage : (tables : List Table) (noted : List RowChange) (work : Work) (refusal : Refusal) (count : ℕ) → nat_lt work.base count ≡ has_noted noted → stage_of tables noted (failed_by work refusal count) ≡ failed tables noted refusal
+pub failed_stage : (tables : List Table) (noted : List RowChange) (work : Progress) (refusal : Refusal) (count : ℕ) → nat_lt work.base count ≡ has_noted noted → stage_of tables noted (failed_by work refusal count) ≡ failed tables noted refusal
 failed_stage tables [] work refusal count some =
     ap (λ (b : Bool). stage_of tables [] (if b then record work { phase = Undoing refusal } else answered work (reply.Err refusal))) some
 failed_stage tables (image ∷ noted) work refusal count some =
     ap (λ (b : Bool). stage_of tables (image ∷ noted) (if b then record work { phase = Undoing refusal } else answered work (reply.Err refusal))) some
 
 -- what a step does of the phase that comes next
-pub step_at : (tables : List Table) (noted : List RowChange) (work : Work) (room : Bool) (p : WorkPhase) → work.phase ≡ p
+pub step_at : (tables : List Table) (noted : List RowChange) (work : Progress) (room : Bool) (p : WorkPhase) → work.phase ≡ p
     → after_step work.statement room (stage_of tables noted work) ≡ step_of work.statement room tables noted (phase_at tables work p)
 step_at tables noted work room p is = ap (λ (q : WorkPhase). step_of work.statement room tables noted (phase_at tables work q)) is
 
 -- ---- CREATE
 
-module _ (tables : List Table) (noted : List RowChange) (work : Work) (count : ℕ) (some : nat_lt work.base count ≡ has_noted noted) where
+module _ (tables : List Table) (noted : List RowChange) (work : Progress) (count : ℕ) (some : nat_lt work.base count ≡ has_noted noted) where
   pub made_stage : (name : List ℕ) (schema : Schema) → work.phase ≡ Creating → work.statement ≡ Create name schema
       → stage_of (with_empty tables name schema) noted (made_by work true count) ≡ after_step work.statement true (stage_of tables noted work)
   made_stage name schema phase is =
@@ -200,7 +200,7 @@ module _ (tables : List Table) (noted : List RowChange) (work : Work) (count : �
   done_stage b phase =
       let change = change_by (is_delete work.statement) work.place b.item in
       let after = after_change tables change in
-      let next : Work = record work { next = work.next + 1 } in
+      let next : Progress = record work { next = work.next + 1 } in
       let left : changes_ahead next ≡ map (change_by (is_delete work.statement) work.place) (drop (suc work.next) (rows_named work.statement work.rows)) =
       ap (λ (n : ℕ). map (change_by (is_delete work.statement) work.place) (drop n (rows_named work.statement work.rows))) (one_more work.next) in
       ap (stage_at after (image_of tables change ∷ noted)) (went_phase after next ∙ ap (changes_left (is_insert work.statement) (work.next + 1)) left)
@@ -214,12 +214,12 @@ module _ (tables : List Table) (noted : List RowChange) (work : Work) (count : �
 
 -- ---- a change that is taken back
 
-pub undone_stage : (tables : List Table) (image : RowChange) (noted : List RowChange) (work : Work) (refusal : Refusal) (count : ℕ) (room : Bool) → work.phase ≡ Undoing refusal → nat_lt work.base count ≡ has_noted noted
+pub undone_stage : (tables : List Table) (image : RowChange) (noted : List RowChange) (work : Progress) (refusal : Refusal) (count : ℕ) (room : Bool) → work.phase ≡ Undoing refusal → nat_lt work.base count ≡ has_noted noted
     → stage_of (after_change tables image) noted (failed_by work refusal count) ≡ after_step work.statement room (stage_of tables (image ∷ noted) work)
 undone_stage tables image noted work refusal count room phase some =
     failed_stage (after_change tables image) noted work refusal count some ∙ sym (step_at tables (image ∷ noted) work room (Undoing refusal) phase)
 
-pub none_stage : (tables : List Table) (work : Work) (refusal : Refusal) (count : ℕ) (room : Bool) → work.phase ≡ Undoing refusal → nat_lt work.base count ≡ false
+pub none_stage : (tables : List Table) (work : Progress) (refusal : Refusal) (count : ℕ) (room : Bool) → work.phase ≡ Undoing refusal → nat_lt work.base count ≡ false
     → stage_of tables [] (failed_by work refusal count) ≡ after_step work.statement room (stage_of tables [] work)
 none_stage tables work refusal count room phase some =
     failed_stage tables [] work refusal count some ∙ sym (step_at tables [] work room (Undoing refusal) phase)

@@ -11,8 +11,8 @@
 mod found;
 mod phase;
 mod starting;
-mod work;
+mod progress;
 
 pub use found::{Changed, Found, Looked};
 pub use phase::Phase;
-pub use work::Work;
+pub use progress::Progress;
