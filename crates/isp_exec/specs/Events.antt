@@ -1,5 +1,5 @@
 -- What one step of a statement is: one step of its stage, and what is answered of it.
-use Rattle.std.specs.Prelude.{◌≡◌, ℕ, ◌<◌, Bool, true, false, List, [], ◌∷◌, Option, Some, None, if◌then◌else◌}
+use Rattle.std.specs.Prelude.{◌≡◌, ℕ, ◌+◌, ◌<◌, Bool, true, false, List, [], ◌∷◌, Option, Some, None, if◌then◌else◌}
 use Rattle.isp_catalog.specs.declared.table.TableDef.{TableDef}
 use Rattle.isp_changes.specs.Changes.{RowChange}
 use Rattle.isp_changes.specs.Stages.{Phase, Stage, after_step, asks_room, begun, changing, creating, is_taken, looking, reading, ready, some_outgrow}
@@ -16,6 +16,12 @@ use Rattle.isp_space.specs.Spaces.{has_room}
 use Rattle.isp_tables.specs.Opened.{IsOpen}
 use Rattle.isp_trx.specs.Transactions.{TrxState}
 use Rattle.isp_writes.specs.Writing.{DidUndo}
+use Rattle.isp_work.specs.declared.found.Changed.{Changed}
+use Rattle.isp_work.specs.declared.found.Changed.TheVariants as changed
+use Rattle.isp_work.specs.declared.found.Found.{Found}
+use Rattle.isp_work.specs.declared.found.Found.TheVariants as found
+use Rattle.isp_work.specs.declared.found.Looked.{Looked}
+use Rattle.isp_work.specs.declared.found.Looked.TheVariants as looked
 use Rattle.isp_work.specs.declared.phase.Phase.TheVariants as phase
 use Rattle.isp_work.specs.declared.progress.Progress.{Progress}
 use Rattle.isp_exec.specs.Standing.{IsAt, height, stage_in}
@@ -35,6 +41,19 @@ refusal_at statement room tables _ = None
 abbrev pub event_by : Option Refusal → Step
 event_by None = Event
 event_by (Some refusal) = Failing (number refusal)
+
+-- the same by what the step finds
+abbrev pub refusal_in : Found → Option Refusal
+refusal_in (found.Rows rows) = None
+refusal_in found.TooLarge = Some RowTooLarge
+
+abbrev pub refusal_of_look : Looked → Option Refusal
+refusal_of_look (looked.Taken refusal) = Some refusal
+refusal_of_look _ = None
+
+abbrev pub refusal_of_change : Changed → Option Refusal
+refusal_of_change changed.Full = Some FileFull
+refusal_of_change _ = None
 
 -- CREATE is ready at once, unless it has something to take back
 abbrev pub made_answer : Bool → List RowChange → Step
@@ -81,10 +100,18 @@ pub record Goes {S : Type 0} (g : Ghosts S) {old : S} {defs : List TableDef} {tr
 -- ---- ROLLBACK
 
 -- a step of it takes the newest change of the transaction back; where none is left, it is ready
+abbrev pub TakesBack : {S : Type 0} → Ghosts S → S → List TableDef → TrxState → Database → Step → Type 0
+TakesBack g now defs trx d Event = DidUndo g now defs trx d
+TakesBack g now defs trx d (Failing number) = ⊥
+TakesBack g now defs trx d (Ready answer) = IsOpen g now defs trx d × (d.images ≡ []) × (answer ≡ reply.Ok)
+
+-- it goes on so
 abbrev pub RollsBack : {S : Type 0} → Ghosts S → S → List TableDef → TrxState → Progress → Database → Step → Type 0
-RollsBack g now defs trx work d Event = DidUndo g now defs trx d × (work.phase ≡ phase.RollingBack)
-RollsBack g now defs trx work d (Failing number) = ⊥
-RollsBack g now defs trx work d (Ready answer) = IsOpen g now defs trx d × (d.images ≡ []) × (answer ≡ reply.Ok)
+RollsBack g now defs trx work d step = TakesBack g now defs trx d step × (work.phase ≡ phase.RollingBack)
+
+-- a step that goes on leaves one less noted
+abbrev pub CountsBack : ℕ → ℕ → Step → Type 0
+CountsBack count count_now step = goes_on step ≡ true → count ≡ count_now + 1
 
 -- ---- the beginning
 
