@@ -95,6 +95,7 @@ pub record Goes {S : Type 0} (g : Ghosts S) {old : S} {defs : List TableDef} {tr
   pub next : IsNext g at now defs_now trx_now work_then
   pub answered : step ≡ answer_of work.statement next.room (stage_in at)
   pub on : goes_on step ≡ true → work_now ≡ work_then
+  pub stated : work_then.statement ≡ work.statement
   pub done : (answer : Reply) → step ≡ Ready answer → (work_then.phase ≡ phase.Ready) × (work_then.reply ≡ answer)
 
 -- ---- ROLLBACK
