@@ -24,7 +24,7 @@ use Rattle.isp_work.specs.Works.{answered, change_by, failed_by, first_of, is_de
 use Rattle.isp_work.specs.declared.found.Looked.{Looked}
 use Rattle.isp_work.specs.declared.found.Looked.TheVariants as looked
 use Rattle.isp_work.specs.declared.phase.Phase.TheVariants.{Creating, Looking, Changing, Undoing}
-use Rattle.isp_work.specs.declared.work.Work.{Work}
+use Rattle.isp_work.specs.declared.progress.Progress.{Progress}
 use Rattle.isp_work.proofs.StageLaws.{Behind, SameParts, done_stage, failed_same, full_stage, has_noted, looked_stage, made_stage, none_stage, over_stage, undone_stage, unmade_stage, went_same}
 use Rattle.isp_writes.specs.Causes.{FillsUp, IsFull}
 use Rattle.isp_tables.specs.Creations.{CreatesOrFull, IsCreatable, MakesOrFull}
@@ -95,7 +95,7 @@ counted (i ∷ since) before =
     let less : length before < suc (length (since ++ before)) = omega (arith, sum) in
     grind (arith, nat_tests, less)
 
-module _ {S : Type 0} (g : Ghosts S) (old : S) (defs : List TableDef) (trx : TrxState) (start : Database) (work : Work) (at : IsAt g old defs trx start work) where
+module _ {S : Type 0} (g : Ghosts S) (old : S) (defs : List TableDef) (trx : TrxState) (start : Database) (work : Progress) (at : IsAt g old defs trx start work) where
   pub as_many : trx.count ≡ length (at.stage.since ++ start.images)
   as_many = at.opened.noted ∙ ap (λ (l : List FileImage). length l) at.stage.images
 
@@ -104,7 +104,7 @@ module _ {S : Type 0} (g : Ghosts S) (old : S) (defs : List TableDef) (trx : Trx
 
 -- ---- one step further
 
-module _ {S : Type 0} (g : Ghosts S) (old new : S) (defs defs_now : List TableDef) (trx trx_now : TrxState) (start : Database) (work work_now : Work) (at : IsAt g old defs trx start work)
+module _ {S : Type 0} (g : Ghosts S) (old new : S) (defs defs_now : List TableDef) (trx trx_now : TrxState) (start : Database) (work work_now : Progress) (at : IsAt g old defs trx start work)
     (pages : (g.shape new).pages ≡ (g.shape old).pages) where
   pub next_at : (room : Bool) (after : Database) (noted : List RowChange) → IsOpen g new defs_now trx_now after → Reaches (g.shape new).pages at.db after → (room ≡ false → IsFull (g.shape new).pages at.db)
       → IsStageOf start.images after (stage_of (tables_of after) noted work_now)
@@ -150,14 +150,14 @@ pub no_way : {X : Type 0} → false ≡ true → X
 no_way is = cc
 
 -- another phase leaves them
-pub went_writable : (work : Work) (d : Database) → AreWritable (is_delete work.statement) work.place (rows_left work) d → AreWritableNow (went_on work) d
+pub went_writable : (work : Progress) (d : Database) → AreWritable (is_delete work.statement) work.place (rows_left work) d → AreWritableNow (went_on work) d
 went_writable work d writable = by (nat_lt work.next (length (rows_named work.statement work.rows)))
   where
     by : (b : Bool) → AreWritableNow (if b then record work { phase = first_of (is_insert work.statement) } else answered work (reply.Count work.next)) d
     by true = λ is. writable
     by false = λ is. no_way is
 
-pub failed_writable : (work : Work) (refusal : Refusal) (count : ℕ) (d : Database) → AreWritableNow (failed_by work refusal count) d
+pub failed_writable : (work : Progress) (refusal : Refusal) (count : ℕ) (d : Database) → AreWritableNow (failed_by work refusal count) d
 failed_writable work refusal count d = by (nat_lt work.base count)
   where
     by : (b : Bool) → AreWritableNow (if b then record work { phase = Undoing refusal } else answered work (reply.Err refusal)) d
@@ -166,7 +166,7 @@ failed_writable work refusal count d = by (nat_lt work.base count)
 
 -- ---- CREATE
 
-module _ {S : Type 0} (g : Ghosts S) (old new : S) (defs defs_now : List TableDef) (trx : TrxState) (start : Database) (work : Work) (at : IsAt g old defs trx start work)
+module _ {S : Type 0} (g : Ghosts S) (old new : S) (defs defs_now : List TableDef) (trx : TrxState) (start : Database) (work : Progress) (at : IsAt g old defs trx start work)
     (pages : (g.shape new).pages ≡ (g.shape old).pages) (phase : work.phase ≡ Creating) where
   created_by : (name : List ℕ) (schema : Schema) (made : Bool) → work.statement ≡ Create name schema → CreatesOrFull g new defs_now trx name schema at.db made
       → IsAt g new defs_now trx start (made_by work made trx.count)
@@ -197,7 +197,7 @@ module _ {S : Type 0} (g : Ghosts S) (old new : S) (defs defs_now : List TableDe
 
 -- ---- a key
 
-module _ {S : Type 0} (g : Ghosts S) (old new : S) (defs : List TableDef) (trx : TrxState) (start : Database) (work : Work) (at : IsAt g old defs trx start work)
+module _ {S : Type 0} (g : Ghosts S) (old new : S) (defs : List TableDef) (trx : TrxState) (start : Database) (work : Progress) (at : IsAt g old defs trx start work)
     (pages : (g.shape new).pages ≡ (g.shape old).pages) (opened : IsOpen g new defs trx at.db) where
   looked_parts : (looked : Looked) → SameParts work (looked_by work looked trx.count)
   looked_parts looked.Over = went_same work
@@ -220,7 +220,7 @@ module _ {S : Type 0} (g : Ghosts S) (old new : S) (defs : List TableDef) (trx :
 
 -- ---- a row
 
-module _ {S : Type 0} (g : Ghosts S) (old new : S) (defs : List TableDef) (trx trx_now : TrxState) (start : Database) (work : Work) (at : IsAt g old defs trx start work)
+module _ {S : Type 0} (g : Ghosts S) (old new : S) (defs : List TableDef) (trx trx_now : TrxState) (start : Database) (work : Progress) (at : IsAt g old defs trx start work)
     (pages : (g.shape new).pages ≡ (g.shape old).pages) (phase : work.phase ≡ Changing) where
   pub over_at : nat_lt work.next (length (rows_named work.statement work.rows)) ≡ false → IsOpen g new defs trx_now at.db → IsAt g new defs trx_now start (went_on work)
   over_at over opened =
@@ -240,7 +240,7 @@ module _ {S : Type 0} (g : Ghosts S) (old new : S) (defs : List TableDef) (trx t
   pub done_at : (b : Behind (rows_named work.statement work.rows) work.next) → DidWrite g new defs trx_now (change_by (is_delete work.statement) work.place b.item) at.db → IsAt g new defs trx_now start (passed work)
   done_at b did =
       let change = change_by (is_delete work.statement) work.place b.item in
-      let next : Work = record work { next = work.next + 1 } in
+      let next : Progress = record work { next = work.next + 1 } in
       let same = went_same next in
       next_at g old new defs defs trx trx_now start work (passed work) at pages true did.after (image_of (tables_of at.db) change ∷ at.noted) did.opened did.reaches (λ no. cc)
       (record {
@@ -256,7 +256,7 @@ module _ {S : Type 0} (g : Ghosts S) (old new : S) (defs : List TableDef) (trx t
 
 -- ---- a change that is taken back
 
-module _ {S : Type 0} (g : Ghosts S) (old new : S) (defs : List TableDef) (trx trx_now : TrxState) (start : Database) (work : Work) (at : IsAt g old defs trx start work)
+module _ {S : Type 0} (g : Ghosts S) (old new : S) (defs : List TableDef) (trx trx_now : TrxState) (start : Database) (work : Progress) (at : IsAt g old defs trx start work)
     (pages : (g.shape new).pages ≡ (g.shape old).pages) (refusal : Refusal) (phase : work.phase ≡ Undoing refusal) where
   none_by : (noted : List RowChange) → at.noted ≡ noted → has_noted noted ≡ false → at.noted ≡ []
   none_by [] is none = is

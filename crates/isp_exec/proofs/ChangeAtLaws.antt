@@ -14,7 +14,7 @@ use Rattle.isp_work.specs.Works.{IsChangeOf, change_by, changed_by, failed_by, i
 use Rattle.isp_work.specs.declared.found.Changed.{Changed}
 use Rattle.isp_work.specs.declared.found.Changed.TheVariants as changed
 use Rattle.isp_work.specs.declared.phase.Phase.TheVariants.{Changing}
-use Rattle.isp_work.specs.declared.work.Work.{Work}
+use Rattle.isp_work.specs.declared.progress.Progress.{Progress}
 use Rattle.isp_work.proofs.StageLaws.{Behind, behind, behind_at, none_there}
 use Rattle.isp_tables.specs.Opened.{IsWritable}
 use Rattle.isp_exec.specs.Standing.{AreWritable, IsAt}
@@ -24,7 +24,7 @@ use Rattle.isp_exec.proofs.RowLaws.{first_writable}
 
 -- ---- the next row, whatever became of it
 
-pub next_writable : (work : Work) (d : Database) → AreWritable (is_delete work.statement) work.place (rows_left work) d → IsNextWritable work d
+pub next_writable : (work : Progress) (d : Database) → AreWritable (is_delete work.statement) work.place (rows_left work) d → IsNextWritable work d
 next_writable work d writable = by (nat_lt work.next (length (rows_named work.statement work.rows))) refl
   where
     by : (b : Bool) → nat_lt work.next (length (rows_named work.statement work.rows)) ≡ b → IsNextWritable work d
@@ -38,7 +38,7 @@ next_writable work d writable = by (nat_lt work.next (length (rows_named work.st
 never_over : ◌≡◌ {A = Changed} changed.Full changed.Over → ⊥
 never_over is = cc
 
-module _ {S : Type 0} (g : Ghosts S) (old new : S) (defs : List TableDef) (trx trx_now : TrxState) (start : Database) (work : Work) (at : IsAt g old defs trx start work)
+module _ {S : Type 0} (g : Ghosts S) (old new : S) (defs : List TableDef) (trx trx_now : TrxState) (start : Database) (work : Progress) (at : IsAt g old defs trx start work)
     (pages : (g.shape new).pages ≡ (g.shape old).pages) (phase : work.phase ≡ Changing) where
   none_is : nat_lt work.next (length (rows_named work.statement work.rows)) ≡ false → next_change work ≡ None
   none_is over = ap (option_map (change_by (is_delete work.statement) work.place)) (none_there (rows_named work.statement work.rows) work.next over)

@@ -19,7 +19,7 @@ use Rattle.isp_work.specs.declared.found.Found.TheVariants as found
 use Rattle.isp_work.specs.declared.found.Looked.{Looked}
 use Rattle.isp_work.specs.declared.found.Looked.TheVariants as looked
 use Rattle.isp_work.specs.declared.phase.Phase.TheVariants.{Reading, Undoing}
-use Rattle.isp_work.specs.declared.work.Work.{Work}
+use Rattle.isp_work.specs.declared.progress.Progress.{Progress}
 use Rattle.isp_work.proofs.StageLaws.{behind}
 use Rattle.isp_scan.specs.Readings.{AreFoundFor, IsPutRow, SetsFitIn}
 use Rattle.isp_exec.specs.Standing.{IsChanging, IsFit, IsFitIn, IsLooking, IsReading}
@@ -28,14 +28,14 @@ use Rattle.isp_tables.specs.TableLists.{place_in}
 
 -- ---- after a turn
 
-pub failed_fit : (defs : List TableDef) (work : Work) (refusal : Refusal) (noted : ℕ) → IsFit defs (failed_by work refusal noted)
+pub failed_fit : (defs : List TableDef) (work : Progress) (refusal : Refusal) (noted : ℕ) → IsFit defs (failed_by work refusal noted)
 failed_fit defs work refusal noted = by (nat_lt work.base noted)
   where
     by : (b : Bool) → IsFit defs (if b then record work { phase = Undoing refusal } else answered work (reply.Err refusal))
     by true = tt
     by false = tt
 
-pub made_fit : (defs : List TableDef) (work : Work) (made : Bool) (noted : ℕ) → IsFit defs (made_by work made noted)
+pub made_fit : (defs : List TableDef) (work : Progress) (made : Bool) (noted : ℕ) → IsFit defs (made_by work made noted)
 made_fit defs work true noted = tt
 made_fit defs work false noted = failed_fit defs work FileFull noted
 
@@ -50,7 +50,7 @@ inserts_not Commit is = cc
 inserts_not Rollback is = cc
 inserts_not (Refused refusal) is = cc
 
-pub went_fit : (defs : List TableDef) (work : Work) → IsChanging defs work → IsFit defs (went_on work)
+pub went_fit : (defs : List TableDef) (work : Progress) → IsChanging defs work → IsFit defs (went_on work)
 went_fit defs work is = by (nat_lt work.next (length (rows_named work.statement work.rows)))
   where
     first : (inserts : Bool) → is_insert work.statement ≡ inserts → IsFitIn defs (record work { phase = first_of inserts }) (first_of inserts)
@@ -73,18 +73,18 @@ found_rows Commit def rows is new not = cc
 found_rows Rollback def rows is new not = cc
 found_rows (Refused refusal) def rows is new not = cc
 
-pub took_fit : (defs : List TableDef) (work : Work) (f : Found) (noted : ℕ) (is : IsReading defs work) → AreFoundFor is.def.schema work.statement f → IsFit defs (took work f noted)
+pub took_fit : (defs : List TableDef) (work : Progress) (f : Found) (noted : ℕ) (is : IsReading defs work) → AreFoundFor is.def.schema work.statement f → IsFit defs (took work f noted)
 took_fit defs work (found.Answer rows) noted is new = tt
 took_fit defs work (found.Changing rows) noted is new =
     went_fit defs (record work { rows = rows }) (record { def = is.def; is_there = is.is_there; rows = found_rows work.statement is.def rows is.reads_rows new })
 took_fit defs work found.TooLarge noted is new = failed_fit defs work RowTooLarge noted
 
-pub looked_fit : (defs : List TableDef) (work : Work) (l : Looked) (noted : ℕ) → IsLooking defs work → IsFit defs (looked_by work l noted)
+pub looked_fit : (defs : List TableDef) (work : Progress) (l : Looked) (noted : ℕ) → IsLooking defs work → IsFit defs (looked_by work l noted)
 looked_fit defs work looked.Over noted is = went_fit defs work (record { def = is.def; is_there = is.is_there; rows = λ _. is.rows })
 looked_fit defs work looked.Free noted is = record { def = is.def; is_there = is.is_there; rows = λ _. is.rows }
 looked_fit defs work (looked.Taken refusal) noted is = failed_fit defs work refusal noted
 
-pub passed_fit : (defs : List TableDef) (work : Work) → IsChanging defs work → IsFit defs (passed work)
+pub passed_fit : (defs : List TableDef) (work : Progress) → IsChanging defs work → IsFit defs (passed work)
 passed_fit defs work is = went_fit defs (record work { next = work.next + 1 }) (record { def = is.def; is_there = is.is_there; rows = is.rows })
 
 -- ---- at the beginning

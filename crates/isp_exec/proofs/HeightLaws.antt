@@ -14,7 +14,7 @@ use Rattle.isp_work.specs.declared.found.Looked.{Looked}
 use Rattle.isp_work.specs.declared.found.Looked.TheVariants as looked
 use Rattle.isp_work.specs.declared.phase.Phase.{Phase as WorkPhase}
 use Rattle.isp_work.specs.declared.phase.Phase.TheVariants.{Creating, Reading, Looking, Changing, Undoing}
-use Rattle.isp_work.specs.declared.work.Work.{Work}
+use Rattle.isp_work.specs.declared.progress.Progress.{Progress}
 use Rattle.isp_writes.specs.Writing.{fewer}
 use Rattle.isp_exec.specs.Standing.{height, height_in}
 use Rattle.isp_exec.proofs.RowLaws.{one_more}
@@ -36,7 +36,7 @@ dropped_one (row ∷ rows) (suc n) less = dropped_one rows n (omega (arith, less
 -- ---- the height behind a turn
 
 -- at most so much
-pub went_height : (work : Work) (noted : ℕ) → height (went_on work) noted ≤ 3 * length (rows_left work) + (noted - work.base) + 3
+pub went_height : (work : Progress) (noted : ℕ) → height (went_on work) noted ≤ 3 * length (rows_left work) + (noted - work.base) + 3
 went_height work noted = by (nat_lt work.next (length (rows_named work.statement work.rows)))
   where
     first : (inserts : Bool) → height_in (record work { phase = first_of inserts }) (noted - work.base) (first_of inserts) ≤ 3 * length (rows_left work) + (noted - work.base) + 3
@@ -47,12 +47,12 @@ went_height work noted = by (nat_lt work.next (length (rows_named work.statement
     by true = first (is_insert work.statement)
     by false = omega arith
 
-pub over_height : (work : Work) (noted : ℕ) → length (rows_named work.statement work.rows) ≤ work.next → height (went_on work) noted ≡ 0
+pub over_height : (work : Progress) (noted : ℕ) → length (rows_named work.statement work.rows) ≤ work.next → height (went_on work) noted ≡ 0
 over_height work noted over =
     let none : nat_lt work.next (length (rows_named work.statement work.rows)) ≡ false = grind (arith, nat_tests, over) in
     ap (λ (b : Bool). height (if b then record work { phase = first_of (is_insert work.statement) } else answered work (reply.Count work.next)) noted) none
 
-pub failed_height : (work : Work) (refusal : Refusal) (noted : ℕ) → height (failed_by work refusal noted) noted ≤ (noted - work.base) + 1
+pub failed_height : (work : Progress) (refusal : Refusal) (noted : ℕ) → height (failed_by work refusal noted) noted ≤ (noted - work.base) + 1
 failed_height work refusal noted = by (nat_lt work.base noted)
   where
     by : (b : Bool) → height (if b then record work { phase = Undoing refusal } else answered work (reply.Err refusal)) noted ≤ (noted - work.base) + 1
@@ -61,16 +61,16 @@ failed_height work refusal noted = by (nat_lt work.base noted)
 
 -- ---- it falls
 
-height_at : (work : Work) (noted : ℕ) (p : WorkPhase) → work.phase ≡ p → height work noted ≡ height_in work (noted - work.base) p
+height_at : (work : Progress) (noted : ℕ) (p : WorkPhase) → work.phase ≡ p → height work noted ≡ height_in work (noted - work.base) p
 height_at work noted p is = ap (height_in work (noted - work.base)) is
 
-pub made_falls : (work : Work) (made : Bool) (noted : ℕ) → work.phase ≡ Creating → height (made_by work made noted) noted < height work noted
+pub made_falls : (work : Progress) (made : Bool) (noted : ℕ) → work.phase ≡ Creating → height (made_by work made noted) noted < height work noted
 made_falls work true noted phase = let had = height_at work noted Creating phase in omega (arith, had)
 made_falls work false noted phase =
     let had = height_at work noted Creating phase in
     let now = failed_height work FileFull noted in omega (arith, had, now)
 
-pub took_falls : (work : Work) (f : Found) (noted : ℕ) → work.phase ≡ Reading → IsSmall work.statement f → height (took work f noted) noted < height work noted
+pub took_falls : (work : Progress) (f : Found) (noted : ℕ) → work.phase ≡ Reading → IsSmall work.statement f → height (took work f noted) noted < height work noted
 took_falls work (found.Answer rows) noted phase small = let had = height_at work noted Reading phase in omega (arith, had)
 took_falls work (found.Changing rows) noted phase small =
     let had = height_at work noted Reading phase in
@@ -80,7 +80,7 @@ took_falls work found.TooLarge noted phase small =
     let had = height_at work noted Reading phase in
     let now = failed_height work RowTooLarge noted in omega (arith, had, now)
 
-pub looked_falls : (work : Work) (l : Looked) (noted : ℕ) → work.phase ≡ Looking → IsLookOf work l → height (looked_by work l noted) noted < height work noted
+pub looked_falls : (work : Progress) (l : Looked) (noted : ℕ) → work.phase ≡ Looking → IsLookOf work l → height (looked_by work l noted) noted < height work noted
 looked_falls work looked.Over noted phase over =
     let had = height_at work noted Looking phase in
     let now = over_height work noted over in omega (arith, had, now)
@@ -89,12 +89,12 @@ looked_falls work (looked.Taken refusal) noted phase over =
     let had = height_at work noted Looking phase in
     let now = failed_height work refusal noted in omega (arith, had, now)
 
-pub over_falls : (work : Work) (noted now : ℕ) → work.phase ≡ Changing → length (rows_named work.statement work.rows) ≤ work.next → height (went_on work) now < height work noted
+pub over_falls : (work : Progress) (noted now : ℕ) → work.phase ≡ Changing → length (rows_named work.statement work.rows) ≤ work.next → height (went_on work) now < height work noted
 over_falls work noted now phase over =
     let had = height_at work noted Changing phase in
     let none = over_height work now over in omega (arith, had, none)
 
-pub passed_falls : (work : Work) (noted now : ℕ) → work.phase ≡ Changing → work.next < length (rows_named work.statement work.rows) → now ≡ noted + 1 → height (passed work) now < height work noted
+pub passed_falls : (work : Progress) (noted now : ℕ) → work.phase ≡ Changing → work.next < length (rows_named work.statement work.rows) → now ≡ noted + 1 → height (passed work) now < height work noted
 passed_falls work noted now phase less is =
     let had = height_at work noted Changing phase in
     let most = went_height (record work { next = work.next + 1 }) now in
@@ -102,12 +102,12 @@ passed_falls work noted now phase less is =
     let fewer_rows = dropped_one (rows_named work.statement work.rows) work.next less in
     omega (arith, had, most, left, fewer_rows, is)
 
-pub full_falls : (work : Work) (refusal : Refusal) (noted now : ℕ) → work.phase ≡ Changing → now ≡ noted → height (failed_by work refusal now) now < height work noted
+pub full_falls : (work : Progress) (refusal : Refusal) (noted now : ℕ) → work.phase ≡ Changing → now ≡ noted → height (failed_by work refusal now) now < height work noted
 full_falls work refusal noted now phase is =
     let had = height_at work noted Changing phase in
     let most = failed_height work refusal now in omega (arith, had, most, is)
 
-pub undone_falls : (work : Work) (refusal : Refusal) (noted now : ℕ) → work.phase ≡ Undoing refusal → now ≡ fewer work.base noted → height (failed_by work refusal now) now < height work noted
+pub undone_falls : (work : Progress) (refusal : Refusal) (noted now : ℕ) → work.phase ≡ Undoing refusal → now ≡ fewer work.base noted → height (failed_by work refusal now) now < height work noted
 undone_falls work refusal noted now phase is = by (nat_lt work.base noted) refl
   where
     none : nat_lt work.base now ≡ false → height (failed_by work refusal now) now ≡ 0

@@ -11,7 +11,7 @@ use Rattle.isp_tables.specs.Opened.{IsWritable}
 use Rattle.isp_trx.specs.Transactions.{TrxState}
 use Rattle.isp_work.specs.Works.{change_by, is_delete, next_change, next_row}
 use Rattle.isp_work.specs.declared.found.Changed.{Changed}
-use Rattle.isp_work.specs.declared.work.Work.{Work}
+use Rattle.isp_work.specs.declared.progress.Progress.{Progress}
 use Rattle.isp_exec.specs.Changing.{ChangesOrFull, IsNextWritable}
 
 some_row : (a : Row) → None ≡ Some a → ⊥
@@ -23,7 +23,7 @@ none_left (row ∷ rows) zero is = absurd (some_row row is)
 none_left (row ∷ rows) (suc n) is = let most = none_left rows n is in omega (arith, most)
 
 -- the statement deletes its rows, or writes them, and this is its next one
-module _ (work : Work) (row : Row) (deletes : Bool) (d : Database) (is : Some row ≡ next_row work) (kind : deletes ≡ is_delete work.statement) where
+module _ (work : Progress) (row : Row) (deletes : Bool) (d : Database) (is : Some row ≡ next_row work) (kind : deletes ≡ is_delete work.statement) where
   pub row_writable : IsNextWritable work d → IsWritable deletes work.place row d
   row_writable writable =
       subst (λ (b : Bool). IsWritable b work.place row d) (sym kind)

@@ -34,7 +34,7 @@ use Rattle.isp_work.specs.Works.{is_delete, rows_named, stage_of, started, took,
 use Rattle.isp_work.specs.declared.found.Found.{Found}
 use Rattle.isp_work.specs.declared.found.Found.TheVariants as found
 use Rattle.isp_work.specs.declared.phase.Phase.TheVariants.{Reading}
-use Rattle.isp_work.specs.declared.work.Work.{Work}
+use Rattle.isp_work.specs.declared.progress.Progress.{Progress}
 use Rattle.isp_work.proofs.ReadLaws.{KeepsKeysIn, begins_stage, read_stage, reads_pieces}
 use Rattle.isp_work.proofs.StageLaws.{failed_same, went_same}
 use Rattle.isp_tables.specs.Opened.{IsAtPlace, IsOpen}
@@ -78,7 +78,7 @@ lined_at (t ∷ tables) (suc place) table all is = lined_at tables place table (
 
 -- ---- its table is read
 
-module _ (work : Work) (d : Database) (table : Table) (count : ℕ) (next : work.next ≡ 0) (there : slice_get (tables_of d) work.place ≡ Some table) (rises : AreRising table.rows) (own : AreKeyed table.rows)
+module _ (work : Progress) (d : Database) (table : Table) (count : ℕ) (next : work.next ≡ 0) (there : slice_get (tables_of d) work.place ≡ Some table) (rises : AreRising table.rows) (own : AreKeyed table.rows)
     (lines : AllByRecursion (λ (row : Row). is_lined_row row ≡ true) (values_of table.rows)) where
   rows_writable : (s : Statement) (rows : List Row) → work.statement ≡ s → AreWritable (is_delete s) work.place (rows_named s rows) d → AreWritableNow (went_on (record work { rows = rows })) d
   rows_writable s rows is writable =
@@ -106,12 +106,12 @@ module _ (work : Work) (d : Database) (table : Table) (count : ℕ) (next : work
   took_writable Rollback is reads_rows lined = cc
   took_writable (Refused refusal) is reads_rows lined = cc
 
-took_statement : (work : Work) (f : Found) (count : ℕ) → (took work f count).statement ≡ work.statement
+took_statement : (work : Progress) (f : Found) (count : ℕ) → (took work f count).statement ≡ work.statement
 took_statement work (found.Answer rows) count = refl
 took_statement work (found.Changing rows) count = (went_same (record work { rows = rows })).statement
 took_statement work found.TooLarge count = (failed_same work RowTooLarge count).statement
 
-took_base : (work : Work) (f : Found) (count : ℕ) → (took work f count).base ≡ work.base
+took_base : (work : Progress) (f : Found) (count : ℕ) → (took work f count).base ≡ work.base
 took_base work (found.Answer rows) count = refl
 took_base work (found.Changing rows) count = (went_same (record work { rows = rows })).base
 took_base work found.TooLarge count = (failed_same work RowTooLarge count).base
@@ -133,7 +133,7 @@ keeps_keys schema Commit rows fit all = tt
 keeps_keys schema Rollback rows fit all = tt
 keeps_keys schema (Refused refusal) rows fit all = tt
 
-pub read_at : {S : Type 0} (g : Ghosts S) (old new : S) (defs : List TableDef) (trx : TrxState) (start : Database) (work : Work) (at : IsAt g old defs trx start work) (pages : (g.shape new).pages ≡ (g.shape old).pages)
+pub read_at : {S : Type 0} (g : Ghosts S) (old new : S) (defs : List TableDef) (trx : TrxState) (start : Database) (work : Progress) (at : IsAt g old defs trx start work) (pages : (g.shape new).pages ≡ (g.shape old).pages)
     (opened : IsOpen g new defs trx at.db) (def : TableDef) (place : IsAtPlace work.place def at.db) (f : Found) → work.phase ≡ Reading → work.next ≡ 0 → reads work.statement ≡ true → SetsFitIn def.schema work.statement
     → f ≡ found_in def.schema work.statement (shown place.table.rows) → IsAt g new defs trx start (took work f trx.count)
 read_at g old new defs trx start work at pages opened def place f phase next reads_rows sets is =

@@ -11,7 +11,7 @@ use Rattle.isp_writes.specs.Writing.{DidWrite, Notes}
 use Rattle.isp_work.specs.Works.{is_delete, next_row}
 use Rattle.isp_work.specs.declared.found.Changed.{Changed}
 use Rattle.isp_work.specs.declared.found.Changed.TheVariants.{Over, Done, Full}
-use Rattle.isp_work.specs.declared.work.Work.{Work}
+use Rattle.isp_work.specs.declared.progress.Progress.{Progress}
 
 -- the next change, if one is left, was made, or there was no room, and nothing changed
 abbrev pub ChangesOrFull : {S : Type 0} → Ghosts S → S → List TableDef → TrxState → Option RowChange → Database → Changed → Type 0
@@ -29,5 +29,5 @@ abbrev pub ChangeNotes : TrxState → TrxState → Changed → Type 0
 ChangeNotes trx trx_now Done = Notes trx trx_now true
 ChangeNotes trx trx_now _ = Notes trx trx_now false
 
-abbrev pub IsNextWritable : Work → Database → Type 0
+abbrev pub IsNextWritable : Progress → Database → Type 0
 IsNextWritable work d = IfSome (next_row work) (λ row. IsWritable (is_delete work.statement) work.place row d)

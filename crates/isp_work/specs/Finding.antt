@@ -1,4 +1,4 @@
--- What a statement finds in the rows of its table.
+-- What a statement finds in a piece of its table, which it reads at once.
 use Rattle.std.specs.Prelude.{ℤ, Bool, true, false, nat_lt, List, [], filter, map, if◌then◌else◌}
 use Rattle.std.specs.List.{list_any}
 use Rattle.std.specs.Map.{values_of}
@@ -12,7 +12,7 @@ use Rattle.isp_plain.specs.declared.statement.Statement.TheVariants.{Delete, Sel
 use Rattle.isp_plain.specs.declared.value.Row.{Row}
 use Rattle.isp_plain.specs.declared.value.Schema.{Schema}
 use Rattle.isp_work.specs.declared.found.Found.{Found}
-use Rattle.isp_work.specs.declared.found.Found.TheVariants.{Answer, Changing, TooLarge}
+use Rattle.isp_work.specs.declared.found.Found.TheVariants.{Rows, TooLarge}
 
 -- those of which the condition holds
 abbrev pub held_by : Condition → List (ℤ × Row) → List Row
@@ -24,13 +24,14 @@ is_too_large schema sets row = nat_lt row_limit (row_bytes schema (with_sets set
 
 -- the rows with the new values, unless one of them would
 abbrev pub updated_by : Schema → List Assign → List Row → Found
-updated_by schema sets rows = if list_any (is_too_large schema sets) rows then TooLarge else Changing (map (with_sets sets) rows)
+updated_by schema sets rows = if list_any (is_too_large schema sets) rows then TooLarge else Rows (map (with_sets sets) rows)
 
+-- of these rows
 abbrev pub found_in : Schema → Statement → List (ℤ × Row) → Found
-found_in schema (Select name columns w) rows = Answer (map (cut columns) (held_by w rows))
+found_in schema (Select name columns w) rows = Rows (map (cut columns) (held_by w rows))
 found_in schema (Update name sets w) rows = updated_by schema sets (held_by w rows)
-found_in schema (Delete name w) rows = Changing (held_by w rows)
-found_in schema _ rows = Changing []
+found_in schema (Delete name w) rows = Rows (held_by w rows)
+found_in schema _ rows = Rows []
 
 -- the statement reads rows of its table
 abbrev pub reads : Statement → Bool

@@ -2,13 +2,11 @@
 
 use isp_plain::{Refusal, Rows};
 
-/// What a statement found in its table.
+/// What a statement found among the rows that it read at once.
 #[derive(Drop)]
 pub enum Found {
-    /// The rows of its answer.
-    Answer(Rows),
-    /// The rows that it writes or deletes.
-    Changing(Rows),
+    /// The rows that hold: of its answer, with their new values, or to be deleted.
+    Rows(Rows),
     /// One of the rows would get too large.
     TooLarge,
 }

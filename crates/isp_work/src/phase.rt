@@ -7,7 +7,7 @@ use isp_plain::Refusal;
 pub enum Phase {
     /// The table is made.
     Creating,
-    /// The leaf of its table is read.
+    /// A leaf of its table is read, or the row of a key.
     Reading,
     /// The next key is looked up.
     Looking,
@@ -15,6 +15,8 @@ pub enum Phase {
     Changing,
     /// Its newest change is taken back.
     Undoing(Refusal),
+    /// The newest change of the transaction is taken back.
+    RollingBack,
     /// It is ready.
     Ready,
 }

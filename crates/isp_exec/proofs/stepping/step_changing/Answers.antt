@@ -1,7 +1,7 @@
 use Rattle.std.proofs.Common.{rules, sym, ◌∙◌, ap, subst}
 use Rattle.isp_page.specs.State.{FileShape}
 use Rattle.isp_work.specs.Works.{changed_by}
-use Rattle.isp_work.specs.declared.work.Work.{Work}
+use Rattle.isp_work.specs.declared.progress.Progress.{Progress}
 use Rattle.isp_exec.specs.Standing.{IsAt, writes}
 use Rattle.isp_exec.proofs.ChangeAtLaws.{changed_at, next_writable}
 use Rattle.isp_exec.proofs.StatementLaws.{changed_keeps}
@@ -20,8 +20,8 @@ returns-clause-stands g c tells start at =
     let new = c.change_next.new.pages in
     let pages = ap (λ (shape : FileShape). shape.pages) c.in_ok-changed.ensures.kept.same_shape in
     let did = c.in_ok-changed.ensures.changed tells at.db at.opened (next_writable work at.db (at.writable (ap writes c.requires.phase))) in
-    subst (λ (w : Work). IsAt g.P.Pages new c.args.tables.now now start w) (sym (c.change_on.ensures ∙ ap (changed_by work c.in_ok-changed.changed) c.undo_count.ensures))
+    subst (λ (w : Progress). IsAt g.P.Pages new c.args.tables.now now start w) (sym (c.change_on.ensures ∙ ap (changed_by work c.in_ok-changed.changed) c.undo_count.ensures))
     (changed_at g.P.Pages c.args.pages.now new c.args.tables.now trx now start work at pages c.requires.phase c.in_ok-changed.changed c.in_ok-changed.ensures.next c.in_ok-changed.ensures.notes did)
 
 pub returns-clause-statement : goal.returns-clause-statement
-returns-clause-statement g c = ap (λ (w : Work). w.statement) c.change_on.ensures ∙ changed_keeps c.args.work.now _ _
+returns-clause-statement g c = ap (λ (w : Progress). w.statement) c.change_on.ensures ∙ changed_keeps c.args.work.now _ _

@@ -1,7 +1,7 @@
 use Rattle.std.proofs.Common.{rules, sym, ◌∙◌, ap, subst}
 use Rattle.isp_page.specs.State.{FileShape}
 use Rattle.isp_work.specs.Works.{looked_by}
-use Rattle.isp_work.specs.declared.work.Work.{Work}
+use Rattle.isp_work.specs.declared.progress.Progress.{Progress}
 use Rattle.isp_exec.specs.Standing.{IsAt}
 use Rattle.isp_exec.proofs.AtLaws.{looked_at}
 use Rattle.isp_tables.proofs.TableLaws.{at_place, file_table, open_on, plain_at}
@@ -27,9 +27,9 @@ returns-clause-stands g c tells start at =
     let has = file_table g.P.Pages c.args.pages.now defs trx at.db work.place fit.def at.opened place in
     let pages = ap (λ (shape : FileShape). shape.pages) c.in_ok-looked.ensures.kept.keeps.same_shape in
     let opened = open_on g.P.Pages c.args.pages.now new defs trx at.db pages (c.in_ok-looked.ensures.contents tells) at.opened in
-    subst (λ (w : Work). IsAt g.P.Pages new defs trx start w) (sym (c.look_on.ensures ∙ ap (looked_by work c.in_ok-looked.looked) c.undo_count.ensures))
+    subst (λ (w : Progress). IsAt g.P.Pages new defs trx start w) (sym (c.look_on.ensures ∙ ap (looked_by work c.in_ok-looked.looked) c.undo_count.ensures))
     (looked_at g.P.Pages c.args.pages.now new defs trx start work at pages opened place.table c.in_ok-looked.looked c.requires.phase (plain_at at.db work.place fit.def place)
     (c.in_ok-looked.ensures.looked tells fit.def place.table fit.is_there has))
 
 pub returns-clause-statement : goal.returns-clause-statement
-returns-clause-statement g c = ap (λ (w : Work). w.statement) c.look_on.ensures ∙ looked_keeps c.args.work.now _ _
+returns-clause-statement g c = ap (λ (w : Progress). w.statement) c.look_on.ensures ∙ looked_keeps c.args.work.now _ _

@@ -1,7 +1,7 @@
 use Rattle.std.proofs.Common.{rules, sym, ◌∙◌, ap, subst}
 use Rattle.isp_page.specs.State.{FileShape}
 use Rattle.isp_work.specs.Works.{took}
-use Rattle.isp_work.specs.declared.work.Work.{Work}
+use Rattle.isp_work.specs.declared.progress.Progress.{Progress}
 use Rattle.isp_exec.specs.Standing.{IsAt, IsFit}
 use Rattle.isp_exec.proofs.FitLaws.{took_fit}
 use Rattle.isp_exec.proofs.ReadAtLaws.{read_at}
@@ -33,9 +33,9 @@ returns-clause-stands g c tells start at =
     let has = file_table g.P.Pages c.args.pages.now defs trx at.db work.place fit.def at.opened place in
     let pages = ap (λ (shape : FileShape). shape.pages) c.in_ok-found.ensures.kept.keeps.same_shape in
     let opened = open_on g.P.Pages c.args.pages.now new defs trx at.db pages (c.in_ok-found.ensures.contents tells) at.opened in
-    subst (λ (w : Work). IsAt g.P.Pages new defs trx start w) (sym (c.take.ensures.is ∙ ap (took work c.in_ok-found.found) c.undo_count.ensures))
+    subst (λ (w : Progress). IsAt g.P.Pages new defs trx start w) (sym (c.take.ensures.is ∙ ap (took work c.in_ok-found.found) c.undo_count.ensures))
     (read_at g.P.Pages c.args.pages.now new defs trx start work at pages opened fit.def place c.in_ok-found.found c.requires.phase fit.first fit.reads_rows fit.sets
     (c.in_ok-found.ensures.found tells fit.def place.table fit.is_there has))
 
 pub returns-clause-statement : goal.returns-clause-statement
-returns-clause-statement g c = ap (λ (w : Work). w.statement) c.take.ensures.is ∙ took_keeps c.args.work.now _ _
+returns-clause-statement g c = ap (λ (w : Progress). w.statement) c.take.ensures.is ∙ took_keeps c.args.work.now _ _

@@ -1,25 +1,32 @@
 //! A statement that goes on step by step: what it is, and how it goes on in memory.
 
-ghost use Rattle.std.specs.Prelude.{◌≡◌, ◌<◌, ◌+◌, ◌^◌, [], nat_lt, true, length, slice_get};
+ghost use Rattle.std.specs.Prelude.{◌≡◌, ◌<◌, ◌≤◌, ◌+◌, ◌^◌, [], nat_lt, true, length, slice_get, IfSome, OnOk};
 ghost use Rattle.std.specs.Option.{option_copied};
 ghost use Rattle.isp_changes.specs.Stages.{is_insert};
-ghost use Rattle.isp_work.specs.Works.{IsChangeOf, IsSmall, changed_by, failed_by, first_of, is_delete, is_ready, looked_by, made_by, passed, rows_named, started, took, went_on};
+ghost use Rattle.isp_plain.specs.declared.statement.Reply.TheVariants as reply;
+ghost use Rattle.isp_work.specs.Works.{IsChangeOf, IsSmall, IsSmallOut, TakesSmall, changed_by, failed_by, first_of, is_delete, is_ready, is_select, looked_by, made_by, passed, read_by, read_out, rows_named, started, took, went_on};
 
 use crate::found::{Changed, Found, Looked};
 use crate::phase::Phase;
+use isp_base::PageNo;
 use isp_plain::{Refusal, Reply, Row, Rows, Statement};
-use std::alloc::Global;
+use std::alloc::{AllocError, Global};
+use std::mem;
 
 /// A statement on its way to its answer.
 #[derive(Drop)]
-pub struct Work {
+pub struct Progress {
     statement: Statement,
     // The place of its table, from 0.
     place: usize,
-    // The rows that were read for it, with the values that they get.
+    // The rows that hold of those that it read, as they are answered or written.
     rows: Rows,
     // How many of its rows are written.
     next: usize,
+    // The page of the leaf that it read last.
+    after: Option<PageNo>,
+    // How many leaves it may read behind that one.
+    budget: u32,
     // How many changes its transaction had noted before it.
     base: usize,
     phase: Phase,
@@ -31,6 +38,15 @@ pub(crate) fn is_insert(statement: &Statement) -> bool
 {
     match statement {
         Statement::Insert { .. } => true,
+        _ => false,
+    }
+}
+
+fn is_select(statement: &Statement) -> bool
+    ensures { result ≡ is_select statement.now }
+{
+    match statement {
+        Statement::Select { .. } => true,
         _ => false,
     }
 }
@@ -65,23 +81,26 @@ fn first_of(statement: &Statement) -> Phase
     }
 }
 
-impl Work {
+impl Progress {
     // A statement on the table at a place, of which nothing is done.
     pub(crate) fn new(
         alloc: Global,
         statement: Statement,
         place: usize,
         base: usize,
+        budget: u32,
         phase: Phase,
         reply: Reply,
-    ) -> Work
-        ensures { result ≡ started statement place base phase reply }
+    ) -> Progress
+        ensures { result ≡ started statement place base budget phase reply }
     {
-        Work {
+        Progress {
             statement,
             place,
             rows: Rows::new(alloc),
             next: 0,
+            after: None,
+            budget,
             base,
             phase,
             reply,
@@ -109,6 +128,20 @@ impl Work {
         self.base
     }
 
+    /// The page of the leaf that it read last, if another one stands behind it.
+    pub fn after(&self) -> Option<PageNo>
+        ensures { result ≡ self.now.after }
+    {
+        self.after
+    }
+
+    /// How many leaves it may read behind that one.
+    pub fn budget(&self) -> u32
+        ensures { result ≡ self.now.budget }
+    {
+        self.budget
+    }
+
     /// What comes next.
     pub fn phase(&self) -> Phase
         ensures { result ≡ self.now.phase }
@@ -133,11 +166,12 @@ impl Work {
         }
     }
 
-    /// Its answer, once it is ready.
-    pub fn into_reply(self) -> Reply
-        ensures { result ≡ self.reply }
+    /// Its answer, once it is ready. It is handed out once.
+    pub fn answer(&mut self) -> Reply
+        ensures result { result ≡ self.old.reply }
+        ensures rest { self.new ≡ record self.old { reply = reply.Ok } }
     {
-        self.reply
+        mem::replace(&mut self.reply, Reply::Ok)
     }
 
     /// The next row.
@@ -184,22 +218,59 @@ impl Work {
         }
     }
 
-    /// Goes on with what was read.
-    pub fn take(&mut self, found: Found, noted: usize)
-        ensures is { self.new ≡ took self.old found noted }
-        ensures small { IsSmall self.old.statement found }
+    // Goes on where all is read.
+    fn read_out(&mut self, alloc: Global)
+        ensures is { self.new ≡ read_out self.old }
+        ensures small { IsSmall self.old }
+    {
+        if is_select(&self.statement) {
+            let rows = mem::replace(&mut self.rows, Rows::new(alloc));
+            self.reply = Reply::Rows(rows);
+            self.phase = Phase::Ready;
+        } else {
+            self.go_on();
+        }
+    }
+
+    // Goes on to the leaf behind that page, or where none is left.
+    fn read_on(&mut self, alloc: Global, next: Option<PageNo>)
+        requires left { IfSome next (λ page. 1 ≤ self.old.budget) }
+        ensures is { self.new ≡ read_by next self.old }
+        ensures small { IsSmallOut next self.old }
+    {
+        match next {
+            Some(page) => {
+                self.after = Some(page);
+                self.budget -= 1;
+            }
+            None => self.read_out(alloc),
+        }
+    }
+
+    /// Goes on with what was read: the leaf behind that page comes next, or no more is left.
+    ///
+    /// # Errors
+    ///
+    /// Want of memory.
+    pub fn take(
+        &mut self,
+        alloc: Global,
+        found: Found,
+        next: Option<PageNo>,
+        noted: usize,
+    ) -> Result<(), AllocError>
+        requires left { IfSome next (λ page. 1 ≤ self.old.budget) }
+        ensures is { OnOk result (self.new ≡ took self.old found next noted) }
+        ensures small { OnOk result (TakesSmall self.old found next) }
     {
         match found {
-            Found::Answer(rows) => {
-                self.reply = Reply::Rows(rows);
-                self.phase = Phase::Ready;
-            }
-            Found::Changing(rows) => {
-                self.rows = rows;
-                self.go_on();
+            Found::Rows(rows) => {
+                self.rows.append(rows)?;
+                self.read_on(alloc, next);
             }
             Found::TooLarge => self.fail(Refusal::RowTooLarge, noted),
         }
+        Ok(())
     }
 
     /// Goes on with what was found of the next key.
