@@ -1,38 +1,13 @@
 -- Calls one after another, in one word.
 use Rattle.std.proofs.Common.{◌≡◌, ℕ, Bool, true, refl, sym, ◌∙◌, ap, subst, arith}
-use Rattle.std.specs.Prelude.{Result, Ok, Err, IfErr, ⊤}
+use Rattle.std.specs.Prelude.{Result, Ok, Err, ⊤}
 use Rattle.isp_page.specs.Calls.{ContinuesOrLacks}
 use Rattle.isp_page.specs.Steps.{FailsOrLacks}
 use Rattle.isp_page.specs.declared.fault.Fault.{Fault}
-use Rattle.isp_page.specs.declared.fault.Fault.TheVariants.{Memory, Store}
+use Rattle.isp_page.specs.declared.fault.Fault.TheVariants.{Store}
 use Rattle.isp_page.specs.declared.fault.StoreFault.TheVariants.{Damaged}
 use Rattle.isp_page.specs.declared.pages.Pages.{Ghosts}
-use Rattle.isp_clustered.specs.Calls.{Lacks}
-use Rattle.isp_tables.specs.Calls.{IsOfStore, Keeps}
-
--- ---- for want of memory
-
--- where it holds anyhow
-pub lacks_same : {T X : Type 0} (result : Result T Fault) → X → Lacks result X
-lacks_same (Ok x) is = tt
-lacks_same (Err (Store fault)) is = tt
-lacks_same (Err Memory) is = is
-
--- where the store alone can fail
-pub lacks_none : {T : Type 0} (X : Type 0) (result : Result T Fault) → IfErr result IsOfStore → Lacks result X
-lacks_none X (Ok x) fails = tt
-lacks_none X (Err (Store fault)) fails = tt
-lacks_none X (Err Memory) fails = absurd fails
-
--- the same of a fault that is handed on
-pub lacks_handed : {T : Type 0} (U X : Type 0) (result : Result T Fault) (e f : Fault) → result ≡ Err f → f ≡ e → Lacks {T = U} (Err e) X → Lacks result X
-lacks_handed {T = T} U X result e f is same lacks = subst (λ (r : Result T Fault). Lacks r X) (sym (is ∙ ap (λ (x : Fault). Err x) same)) (by e lacks)
-  where
-    by : (e : Fault) → Lacks {T = U} (Err e) X → Lacks {T = T} (Err e) X
-    by (Store fault) lacks = tt
-    by Memory lacks = lacks
-
--- ---- calls one after another
+use Rattle.isp_tables.specs.Calls.{Keeps}
 
 -- how a loop's turns so far ended
 abbrev pub so_far : Result ⊤ Fault
