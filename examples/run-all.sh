@@ -1,6 +1,6 @@
 #!/bin/sh
 # Runs each example on a new database file, compares what it prints with the text beside it, and says which differ. Those of a shop
-# are two runs on one file.
+# are two runs on one file; a file that is to run full has 65 pages.
 here=$(CDPATH= cd -- "$(dirname -- "$0")" && pwd) || exit 1
 isp=$here/../isp
 folder=$(mktemp -d) || exit 1
@@ -23,7 +23,11 @@ for script in "$here"/*.isp; do
     case $name in
     shop-*) continue ;;
     esac
-    "$isp" "$folder/$name.db" make --pages 1024 --fanout 50 || exit 1
+    case $name in
+    *-full) pages=65 ;;
+    *) pages=1024 ;;
+    esac
+    "$isp" "$folder/$name.db" make --pages $pages --fanout 50 || exit 1
     try "$name" "$folder/$name.db"
 done
 "$isp" "$folder/shop.db" make --pages 1024 --fanout 50 || exit 1
