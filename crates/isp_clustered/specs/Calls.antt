@@ -5,7 +5,7 @@ use Rattle.isp_base.specs.declared.page_no.PageNo.{PageNo}
 use Rattle.isp_format.specs.Header.{header_of}
 use Rattle.isp_format.specs.Leaf.{Stored}
 use Rattle.isp_format.specs.Ranges.{Contents, page_of}
-use Rattle.isp_format.specs.Rules.{tree_rule}
+use Rattle.isp_format.specs.Rules.{space_number, tree_rule}
 use Rattle.isp_page.specs.Calls.{Continues, ContinuesOrLacks}
 use Rattle.isp_page.specs.Touched.{KeepsPages, is_page}
 use Rattle.isp_page.specs.declared.fault.Fault.{Fault}
@@ -28,7 +28,7 @@ pub record IsCreated (pages : ℕ) (old new : Contents) (table : ℕ) (s : Space
   pub is_next : page ≡ next_free s
   pub is_tree : IsTree pages new table page (one_leaf page [])
   pub is_space : IsSpace pages new (taken s)
-  pub others : KeepsPages (λ other. is_page 0 other || is_page page other) old new
+  pub others : KeepsPages (λ other. is_page space_number other || is_page page other) old new
 
 -- what stands in a store of pages: a tree; whether a row may be put
 abbrev pub HasTree : {S : Type 0} → Ghosts S → S → ℕ → ℕ → Tree → Type 0

@@ -4,6 +4,7 @@ use Rattle.std.specs.Prelude.{◌≡◌, ℕ, ◌+◌, ◌<◌, ◌≤◌, ◌||
 use Rattle.isp_base.specs.Lists.{times}
 use Rattle.isp_format.specs.Leaf.{stored_head}
 use Rattle.isp_format.specs.Ranges.{Contents}
+use Rattle.isp_format.specs.Rules.{space_number}
 use Rattle.isp_page.specs.State.{is_among}
 use Rattle.isp_page.specs.Touched.{KeepsPages, is_page}
 use Rattle.isp_space.specs.Spaces.{IsSpace, Space, free_pages, most_counted, space_pages}
@@ -55,4 +56,4 @@ pub record IsPut (pages : ℕ) (old new : Contents) (table root : ℕ) (key : �
   pub few : count ≤ most_put
   pub pages_are : (page : ℕ) → times page (pages_of after) ≡ times page (pages_of before) + times page (takes count s)
   pub is_space : IsSpace pages new (let t = taken_times count s in record t { bytes = s.bytes + (stored_head + length row) })
-  pub others : KeepsPages (λ page. is_page 0 page || is_among page (pages_of after)) old new
+  pub others : KeepsPages (λ page. is_page space_number page || is_among page (pages_of after)) old new

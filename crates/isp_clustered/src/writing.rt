@@ -6,6 +6,7 @@ ghost use Rattle.isp_format.specs.Header.{header_of};
 ghost use Rattle.isp_format.specs.Ranges.{page_of};
 ghost use Rattle.isp_format.specs.HeadValues.{header_in};
 ghost use Rattle.isp_format.specs.Leaf.{most_slot};
+ghost use Rattle.isp_format.specs.Rules.{space_number};
 ghost use Rattle.isp_page.specs.Steps.{IsNoDamage};
 ghost use Rattle.isp_space.specs.Spaces.{NamesSpace, Space, counter_limit, free_pages};
 ghost use Rattle.isp_levels.specs.Walks.{NamesAny};
@@ -63,7 +64,8 @@ fn count_and_replace<P: Pages>(
 ) -> Result<(), StoreFault>
     requires can { MayChange P.Pages 2 pages.old }
     requires page { page.0 < (P.shape pages.old).pages }
-    ensures changes { ChangesPages P.Pages (0 ∷ page.0 ∷ []) NamesSpace pages.old pages.new result }
+    ensures changes { ChangesPages P.Pages (space_number ∷ page.0 ∷ [])
+        NamesSpace pages.old pages.new result }
     ensures put { P.tells → first_fresh ≤ page.0
         → old.now.bytes ≡ page_of (P.contents pages.old) page.0
         → OnOk result (page_of (P.contents pages.new) page.0 ≡ new.now.bytes) }

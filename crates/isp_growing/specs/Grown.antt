@@ -4,6 +4,7 @@ use Rattle.std.specs.Prelude.{◌≡◌, ℕ, ◌+◌, ◌≤◌, ◌||◌, ℤ,
 use Rattle.isp_base.specs.Lists.{times}
 use Rattle.isp_cells.specs.Rows.{with_put}
 use Rattle.isp_format.specs.Ranges.{Contents}
+use Rattle.isp_format.specs.Rules.{space_number}
 use Rattle.isp_growth.specs.Growing.{IsSpaceBeside}
 use Rattle.isp_levels.specs.Dividing.{is_divided, with_row_put}
 use Rattle.isp_levels.specs.Levels.{InnerNode, IsTreeOf, TreeLeaf, all_rows, pick_leaf, tree_pages}
@@ -44,4 +45,4 @@ pub record IsGrown (pages : ℕ) (old new : Contents) (table root : ℕ) (key : 
   pub few : count ≤ most_grown
   pub pages_are : (q : ℕ) → times q (tree_pages levels_now leaves_now) ≡ times q (tree_pages levels leaves) + times q (takes count s)
   pub is_space : IsSpace pages new (taken_times count s)
-  pub others : KeepsPages (λ q. is_page 0 q || is_among q (tree_pages levels_now leaves_now)) old new
+  pub others : KeepsPages (λ q. is_page space_number q || is_among q (tree_pages levels_now leaves_now)) old new

@@ -4,6 +4,7 @@ use Rattle.std.specs.Prelude.{◌≡◌, ℕ, suc, ◌+◌, ◌*◌, ◌≤◌, 
 use Rattle.isp_base.specs.Lists.{times}
 use Rattle.isp_format.specs.Inner.{Name}
 use Rattle.isp_format.specs.Ranges.{Contents}
+use Rattle.isp_format.specs.Rules.{space_number}
 use Rattle.isp_growth.specs.Growing.{IsLacking, IsSpaceBeside, IsWhole, grown_pages}
 use Rattle.isp_halving.specs.declared.Entry.{Entry}
 use Rattle.isp_levels.specs.Levels.{InnerNode, TreeLeaf, least_key}
@@ -25,13 +26,13 @@ most_up = 33
 pub record MayGoUp {S : Type 0} (g : Ghosts S) (level : ℕ) (now : S) : Type 0 where
   pub usable : g.usable now ≡ true
   pub begun : (g.mini now).is_begun ≡ true
-  pub room : length (g.mini now).changed + unchanged_of (0 ∷ []) (g.mini now).changed + most_up ≤ most_changed + 2 * level
+  pub room : length (g.mini now).changed + unchanged_of (space_number ∷ []) (g.mini now).changed + most_up ≤ most_changed + 2 * level
 
 -- page 0 and at most so many others are changed
 pub record GoesUp {S : Type 0} (g : Ghosts S) (level : ℕ) (old new : S) : Type 0 where
   pub list : List ℕ
   pub few : length list + 2 * level ≤ most_up
-  pub changes : ChangesOf g (0 ∷ list) old new
+  pub changes : ChangesOf g (space_number ∷ list) old new
 
 -- the path has the page of each level from that one on, which is the lowest of those above
 pub record IsOnPath (key : ℤ) (path : Path) (level : ℕ) (up below : List (List InnerNode)) : Type 0 where
@@ -50,7 +51,7 @@ pub record CanGoUp (pages : ℕ) (contents : Contents) (table root : ℕ) (key :
 pub record HasTaken (pages : ℕ) (old new : Contents) (all now : List ℕ) (s : Space) (count : ℕ) : Type 0 where
   pub now_is : (q : ℕ) → times q now ≡ times q all + times q (takes count s)
   pub beside : IsSpaceBeside pages new now (taken_times count s)
-  pub others : KeepsPages (λ q. is_page 0 q || is_among q now) old new
+  pub others : KeepsPages (λ q. is_page space_number q || is_among q now) old new
 
 -- all levels lead to the leaves again
 pub record HasGoneUp (pages : ℕ) (old new : Contents) (table root : ℕ) (up below : List (List InnerNode)) (leaves : List TreeLeaf) (s : Space) : Type 0 where

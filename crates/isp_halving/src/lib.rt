@@ -8,6 +8,7 @@ ghost use Rattle.isp_cells.specs.Rows.{with_put};
 ghost use Rattle.isp_format.specs.Inner.{IsInnerPage, Name, most_names};
 ghost use Rattle.isp_format.specs.Leaf.{Stored, most_slot};
 ghost use Rattle.isp_format.specs.Ranges.{page_of};
+ghost use Rattle.isp_format.specs.Rules.{space_number};
 ghost use Rattle.isp_growth.specs.Entries.{with_name};
 ghost use Rattle.isp_halving.specs.Calls.{HasSpace, IsOutside, NamesTreeOrSpace};
 ghost use Rattle.isp_halving.specs.Halved.{HalvesInner, HalvesLeaf, RaisesInner, RaisesLeaf};
@@ -51,7 +52,7 @@ pub fn divide_leaf<P: Pages>(
     requires page { page.0 < (P.shape pages.old).pages }
     requires row { length row.now ≤ most_slot }
     ensures kept { Continues P.Pages pages.old pages.new result }
-    ensures changes { IfOk result (λ entry. ChangesOf P.Pages (0 ∷ entry.page.0 ∷ page.0 ∷ []) pages.old pages.new) }
+    ensures changes { IfOk result (λ entry. ChangesOf P.Pages (space_number ∷ entry.page.0 ∷ page.0 ∷ []) pages.old pages.new) }
     ensures inside { IfOk result (λ entry. entry.page.0 < (P.shape pages.old).pages) }
     ensures names { IfErr result (NamesTreeOrSpace (P.shape pages.old).pages) }
     ensures halves { P.tells → (table next : ℕ) (rows : List Stored) (s : Space)
@@ -86,7 +87,7 @@ pub fn divide_inner<P: Pages>(
     requires can { MayChange P.Pages 3 pages.old }
     requires page { page.0 < (P.shape pages.old).pages }
     ensures kept { Continues P.Pages pages.old pages.new result }
-    ensures changes { IfOk result (λ entry. ChangesOf P.Pages (0 ∷ entry.page.0 ∷ page.0 ∷ []) pages.old pages.new) }
+    ensures changes { IfOk result (λ entry. ChangesOf P.Pages (space_number ∷ entry.page.0 ∷ page.0 ∷ []) pages.old pages.new) }
     ensures inside { IfOk result (λ entry. entry.page.0 < (P.shape pages.old).pages) }
     ensures names { IfErr result (NamesTreeOrSpace (P.shape pages.old).pages) }
     ensures halves { P.tells → (table : ℕ) (names : List Name) (s : Space)
@@ -192,7 +193,7 @@ pub fn raise<P: Pages>(pages: &mut P, root: PageNo, level: u8) -> Result<PageNo,
     requires page { root.0 < (P.shape pages.old).pages }
     requires level { level < 255 }
     ensures kept { Continues P.Pages pages.old pages.new result }
-    ensures changes { IfOk result (λ to. ChangesOf P.Pages (0 ∷ to.0 ∷ root.0 ∷ []) pages.old pages.new) }
+    ensures changes { IfOk result (λ to. ChangesOf P.Pages (space_number ∷ to.0 ∷ root.0 ∷ []) pages.old pages.new) }
     ensures inside { IfOk result (λ to. to.0 < (P.shape pages.old).pages) }
     ensures names { IfErr result (NamesTreeOrSpace (P.shape pages.old).pages) }
     ensures leaf { P.tells → (table next : ℕ) (rows : List Stored) (s : Space)

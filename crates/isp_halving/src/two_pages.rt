@@ -1,6 +1,7 @@
 //! A page that is taken, and writing on it and on another one.
 ghost use Rattle.std.specs.Prelude.{◌≡◌, ◌+◌, ◌<◌, ◌≤◌, [], ◌∷◌, ℕ, List, true, false, is_none, length, IfErr, IfOk, IfSome, OnOk};
 ghost use Rattle.isp_format.specs.Ranges.{page_of};
+ghost use Rattle.isp_format.specs.Rules.{space_number};
 ghost use Rattle.isp_halving.specs.Calls.{HasSpace, IsOutside, NamesTreeOrSpace};
 ghost use Rattle.isp_halving.specs.Standing.{IsWritten, MayWrite, TakesFor};
 ghost use Rattle.isp_page.specs.Calls.{Continues};
@@ -25,7 +26,7 @@ pub(crate) fn take_for<P: Pages>(
     requires can { MayChange P.Pages 2 pages.old }
     requires page { page.0 < (P.shape pages.old).pages }
     ensures kept { Continues P.Pages pages.old pages.new result }
-    ensures changes { IfOk result (λ right. ChangesOf P.Pages (0 ∷ right.0 ∷ []) pages.old pages.new) }
+    ensures changes { IfOk result (λ right. ChangesOf P.Pages (space_number ∷ right.0 ∷ []) pages.old pages.new) }
     ensures inside { IfOk result (λ right. right.0 < (P.shape pages.old).pages) }
     ensures names { IfErr result (NamesTreeOrSpace (P.shape pages.old).pages) }
     ensures taken { P.tells → (s : Space) → HasSpace P.Pages pages.old s → IsOutside page.0 s

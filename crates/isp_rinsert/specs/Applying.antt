@@ -4,6 +4,7 @@ use Rattle.isp_base.specs.Lists.{Has}
 use Rattle.isp_base.specs.declared.page_no.PageNo.{PageNo}
 use Rattle.isp_format.specs.Empty.{first_fresh}
 use Rattle.isp_format.specs.Ranges.{Contents, page_of}
+use Rattle.isp_format.specs.Rules.{space_number}
 use Rattle.isp_page.specs.Calls.{Continues}
 use Rattle.isp_page.specs.State.{most_changed}
 use Rattle.isp_page.specs.Touched.{unchanged_of}
@@ -28,7 +29,7 @@ numbers_of list = map page_number list
 -- a call that takes these pages
 pub record TakesPages {S T : Type 0} (g : Ghosts S) (news : List PageNo) (old new : S) (result : Result T StoreFault) : Type 0 where
   pub kept : Continues g old new result
-  pub changes : OnOk result (ChangesOf g (0 ∷ numbers_of news) old new)
+  pub changes : OnOk result (ChangesOf g (space_number ∷ numbers_of news) old new)
   pub inside : OnOk result ((p : PageNo) → Has news p → p.0 < (g.shape old).pages)
   pub names : IfErr result NamesSpace
 

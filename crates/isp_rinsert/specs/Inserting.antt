@@ -17,6 +17,7 @@ use Rattle.isp_rtree.specs.Calls.{HasTree}
 use Rattle.isp_rtree.specs.Growing.{AreGrowths}
 use Rattle.isp_rinsert.specs.Calls.{most_taken}
 use Rattle.isp_rinsert.specs.declared.inserting.Changes.{Changes}
+use Rattle.isp_format.specs.Rules.{space_number}
 
 -- the store has the tree and the space of its file beside it, a path stands in the tree, enough pages are free, and the counters
 -- can still rise
@@ -47,7 +48,7 @@ pub record IsInserted {S : Type 0} (g : Ghosts S) (old new : S) (owner root : �
   pub taken : pages_taken q (reverse path) ds ≡ takes count (drawn s)
   pub all : (x : ℕ) → times x (numbers (place tree path b key s.entries q ds).pages) ≡ times x (numbers tree.pages) + times x (takes count (drawn s))
   pub beside : IsSpaceBeside (g.shape new).pages (g.contents new) (numbers (place tree path b key s.entries q ds).pages) (taken_times count (drawn s))
-  pub others : KeepsPages (λ p. is_among p (0 ∷ (path ++ takes count (drawn s)))) (g.contents old) (g.contents new)
+  pub others : KeepsPages (λ p. is_among p (space_number ∷ (path ++ takes count (drawn s)))) (g.contents old) (g.contents new)
   -- what is told of it
   pub number : changes.number ≡ s.entries
   pub growths : AreGrowths tree b path changes.growths.items

@@ -1,5 +1,5 @@
 -- What calls that change pages ask of a store of pages, and what they leave alone; at a bound `P: Pages`, cited as
--- `ChangesPages P.Pages (0 ∷ root.0 ∷ []) NamesSpace pages.old pages.new result`.
+-- `ChangesPages P.Pages (space_number ∷ root.0 ∷ []) NamesSpace pages.old pages.new result`.
 use Rattle.std.specs.Prelude.{◌≡◌, ℕ, ◌+◌, ◌≤◌, true, List, Result, length, IfErr, OnOk}
 use Rattle.isp_page.specs.Calls.{Continues}
 use Rattle.isp_page.specs.State.{is_among, most_changed}

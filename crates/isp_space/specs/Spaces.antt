@@ -6,7 +6,7 @@ use Rattle.isp_format.specs.Empty.{first_fresh}
 use Rattle.isp_format.specs.Header.{Header, header_of}
 use Rattle.isp_format.specs.Kinds.{free_kind}
 use Rattle.isp_format.specs.Ranges.{Contents, page_of}
-use Rattle.isp_format.specs.Rules.{chain_rule, space_rule}
+use Rattle.isp_format.specs.Rules.{chain_rule, space_number, space_rule}
 use Rattle.isp_format.specs.Space.{IsSpacePage, SpacePage}
 use Rattle.isp_page.specs.declared.fault.StoreFault.{StoreFault}
 use Rattle.isp_page.specs.declared.fault.StoreFault.TheVariants.{Damaged, Disk, Print}
@@ -39,7 +39,7 @@ IsChain contents (page ∷ rest) = ((header_of (page_of contents page)).next ≡
 
 -- the contents of a file of so many pages have this space
 pub record IsSpace (pages : ℕ) (contents : Contents) (s : Space) : Type 0 where
-  pub says : IsSpacePage (page_of contents 0) (space_page s)
+  pub says : IsSpacePage (page_of contents space_number) (space_page s)
   pub chain : IsChain contents s.free
   pub inside : All (λ page. (first_fresh ≤ page) × (page < s.fresh)) s.free
   pub once : AreDistinct s.free

@@ -2,6 +2,7 @@
 ghost use Rattle.std.specs.Prelude.{◌≡◌, ◌+◌, ◌<◌, ◌≤◌, ◌||◌, [], ◌∷◌, List, ℕ, true, false, is_none, ◌^◌, length, IfErr, IfSome, OnOk};
 ghost use Rattle.isp_format.specs.Empty.{first_fresh};
 ghost use Rattle.isp_format.specs.Ranges.{page_of};
+ghost use Rattle.isp_format.specs.Rules.{space_number};
 ghost use Rattle.isp_format.specs.Space.{IsSpacePage, SpacePage};
 ghost use Rattle.isp_page.specs.Calls.{Continues};
 ghost use Rattle.isp_page.specs.State.{HasRoom, most_changed};
@@ -34,7 +35,8 @@ pub fn give_chain<P: Pages>(
     requires begun { (P.mini pages.old).is_begun ≡ true }
     requires room { length (P.mini pages.old).changed + 2 ≤ most_changed }
     ensures kept { Continues P.Pages pages.old pages.new result }
-    ensures others { P.tells → OnOk result (KeepsPages (λ q. is_page last.0 q || is_page 0 q)
+    ensures others { P.tells → OnOk result (KeepsPages
+        (λ q. is_page last.0 q || is_page space_number q)
         (P.contents pages.old) (P.contents pages.new)) }
     ensures grown { OnOk result (Grows (last.0 ∷ 0 ∷ []) (P.mini pages.old) (P.mini pages.new)) }
     ensures given { P.tells → (s : Space) (chain : List ℕ)
@@ -95,14 +97,16 @@ fn splice<P: Pages>(
     requires begun { (P.mini pages.old).is_begun ≡ true }
     requires room { length (P.mini pages.old).changed + 2 ≤ most_changed }
     ensures kept { Continues P.Pages pages.old pages.new result }
-    ensures others { P.tells → OnOk result (KeepsPages (λ q. is_page last.0 q || is_page 0 q)
+    ensures others { P.tells → OnOk result (KeepsPages
+        (λ q. is_page last.0 q || is_page space_number q)
         (P.contents pages.old) (P.contents pages.new)) }
     ensures grown { OnOk result (Grows (last.0 ∷ 0 ∷ []) (P.mini pages.old) (P.mini pages.new)) }
     ensures link { P.tells → OnOk result (IsRelinked next.0
         (page_of (P.contents pages.old) last.0) (page_of (P.contents pages.new) last.0)) }
-    ensures says { P.tells → (was : SpacePage) → IsSpacePage (page_of (P.contents pages.old) 0) was
-        → page.now.bytes ≡ page_of (P.contents pages.old) 0
-        → OnOk result (IsSpacePage (page_of (P.contents pages.new) 0) (page_in given.now)) }
+    ensures says { P.tells → (was : SpacePage)
+        → IsSpacePage (page_of (P.contents pages.old) space_number) was
+        → page.now.bytes ≡ page_of (P.contents pages.old) space_number
+        → OnOk result (IsSpacePage (page_of (P.contents pages.new) space_number) (page_in given.now)) }
     ensures sound { IfErr result IsNoDamage }
 {
     link(pages, last, next)?;

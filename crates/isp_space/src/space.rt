@@ -5,6 +5,7 @@ ghost use Rattle.isp_format.specs.Definition.{most_tables};
 ghost use Rattle.isp_format.specs.Empty.{first_fresh};
 ghost use Rattle.isp_format.specs.Header.{header_bytes, header_of};
 ghost use Rattle.isp_format.specs.Ranges.{page_of};
+ghost use Rattle.isp_format.specs.Rules.{space_number};
 ghost use Rattle.isp_page.specs.Calls.{Continues};
 ghost use Rattle.isp_format.specs.Space.{IsSpacePage, SpacePage};
 ghost use Rattle.isp_page.specs.State.{HasRoom};
@@ -47,7 +48,7 @@ pub(crate) fn read_numbers<P: Pages>(
     ensures kept { Continues P.Pages pages.old pages.new result }
     ensures contents { P.tells → OnOk result (P.contents pages.new ≡ P.contents pages.old) }
     ensures mini { OnOk result (P.mini pages.new ≡ P.mini pages.old) }
-    ensures page { P.tells → OnOk result (into.new.bytes ≡ page_of (P.contents pages.old) 0) }
+    ensures page { P.tells → OnOk result (into.new.bytes ≡ page_of (P.contents pages.old) space_number) }
     ensures found { P.tells → (s : Space)
         → IsSpace (P.shape pages.old).pages (P.contents pages.old) s
         → IfOk result (λ n. page_in n ≡ space_page s) }
@@ -155,11 +156,12 @@ pub(crate) fn write_numbers<P: Pages>(
     ensures kept { Continues P.Pages pages.old pages.new result }
     ensures sound { IfErr result IsNoDamage }
     ensures others { P.tells → OnOk result
-        (KeepsPages (is_page 0) (P.contents pages.old) (P.contents pages.new)) }
-    ensures grown { OnOk result (Grows (0 ∷ []) (P.mini pages.old) (P.mini pages.new)) }
-    ensures says { P.tells → (was : SpacePage) → IsSpacePage (page_of (P.contents pages.old) 0) was
-        → old.now.bytes ≡ page_of (P.contents pages.old) 0
-        → OnOk result (IsSpacePage (page_of (P.contents pages.new) 0) (page_in numbers.now)) }
+        (KeepsPages (is_page space_number) (P.contents pages.old) (P.contents pages.new)) }
+    ensures grown { OnOk result (Grows (space_number ∷ []) (P.mini pages.old) (P.mini pages.new)) }
+    ensures says { P.tells → (was : SpacePage)
+        → IsSpacePage (page_of (P.contents pages.old) space_number) was
+        → old.now.bytes ≡ page_of (P.contents pages.old) space_number
+        → OnOk result (IsSpacePage (page_of (P.contents pages.new) space_number) (page_in numbers.now)) }
 {
     let _count = pages.pages();
     let mut new = *old;
@@ -179,11 +181,11 @@ fn write_counters<P: Pages>(
     ensures kept { Continues P.Pages pages.old pages.new result }
     ensures sound { IfErr result IsNoDamage }
     ensures others { P.tells → OnOk result
-        (KeepsPages (is_page 0) (P.contents pages.old) (P.contents pages.new)) }
-    ensures grown { OnOk result (Grows (0 ∷ []) (P.mini pages.old) (P.mini pages.new)) }
+        (KeepsPages (is_page space_number) (P.contents pages.old) (P.contents pages.new)) }
+    ensures grown { OnOk result (Grows (space_number ∷ []) (P.mini pages.old) (P.mini pages.new)) }
     ensures space { P.tells → (s t : Space)
         → IsSpace (P.shape pages.old).pages (P.contents pages.old) s
-        → IsRecounted s t (page_in numbers.now) → old.now.bytes ≡ page_of (P.contents pages.old) 0
+        → IsRecounted s t (page_in numbers.now) → old.now.bytes ≡ page_of (P.contents pages.old) space_number
         → OnOk result (IsSpace (P.shape pages.new).pages (P.contents pages.new) t) }
 {
     write_numbers(pages, old, numbers)?;
@@ -201,8 +203,8 @@ pub fn add_bytes<P: Pages>(pages: &mut P, n: u64) -> Result<(), StoreFault>
     requires room { HasRoom 0 (P.mini pages.old) }
     ensures kept { Continues P.Pages pages.old pages.new result }
     ensures others { P.tells → OnOk result
-        (KeepsPages (is_page 0) (P.contents pages.old) (P.contents pages.new)) }
-    ensures grown { OnOk result (Grows (0 ∷ []) (P.mini pages.old) (P.mini pages.new)) }
+        (KeepsPages (is_page space_number) (P.contents pages.old) (P.contents pages.new)) }
+    ensures grown { OnOk result (Grows (space_number ∷ []) (P.mini pages.old) (P.mini pages.new)) }
     ensures added { P.tells → (s : Space)
         → IsSpace (P.shape pages.old).pages (P.contents pages.old) s
         → OnOk result (IsSpace (P.shape pages.new).pages (P.contents pages.new)
@@ -242,8 +244,8 @@ pub fn draw_number<P: Pages>(pages: &mut P) -> Result<u64, StoreFault>
     requires room { HasRoom 0 (P.mini pages.old) }
     ensures kept { Continues P.Pages pages.old pages.new result }
     ensures others { P.tells → OnOk result
-        (KeepsPages (is_page 0) (P.contents pages.old) (P.contents pages.new)) }
-    ensures grown { OnOk result (Grows (0 ∷ []) (P.mini pages.old) (P.mini pages.new)) }
+        (KeepsPages (is_page space_number) (P.contents pages.old) (P.contents pages.new)) }
+    ensures grown { OnOk result (Grows (space_number ∷ []) (P.mini pages.old) (P.mini pages.new)) }
     ensures drawn { P.tells → (s : Space)
         → IsSpace (P.shape pages.old).pages (P.contents pages.old) s
         → OnOk result (IsSpace (P.shape pages.new).pages (P.contents pages.new)
@@ -281,8 +283,8 @@ pub fn count_table<P: Pages>(pages: &mut P) -> Result<u32, StoreFault>
     requires room { HasRoom 0 (P.mini pages.old) }
     ensures kept { Continues P.Pages pages.old pages.new result }
     ensures others { P.tells → OnOk result
-        (KeepsPages (is_page 0) (P.contents pages.old) (P.contents pages.new)) }
-    ensures grown { OnOk result (Grows (0 ∷ []) (P.mini pages.old) (P.mini pages.new)) }
+        (KeepsPages (is_page space_number) (P.contents pages.old) (P.contents pages.new)) }
+    ensures grown { OnOk result (Grows (space_number ∷ []) (P.mini pages.old) (P.mini pages.new)) }
     ensures counted { P.tells → (s : Space)
         → IsSpace (P.shape pages.old).pages (P.contents pages.old) s
         → OnOk result (IsSpace (P.shape pages.new).pages (P.contents pages.new)

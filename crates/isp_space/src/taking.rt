@@ -4,6 +4,7 @@ ghost use Rattle.isp_format.specs.Empty.{first_fresh};
 ghost use Rattle.isp_format.specs.Header.{header_of};
 ghost use Rattle.isp_format.specs.Ranges.{page_of};
 ghost use Rattle.isp_format.specs.HeadValues.{header_in};
+ghost use Rattle.isp_format.specs.Rules.{space_number};
 ghost use Rattle.isp_page.specs.Calls.{Continues};
 ghost use Rattle.isp_page.specs.State.{HasRoom, most_changed};
 ghost use Rattle.isp_page.specs.Steps.{IsNoDamage};
@@ -30,9 +31,10 @@ pub fn take_page<P: Pages>(pages: &mut P) -> Result<PageNo, StoreFault>
     requires begun { (P.mini pages.old).is_begun ≡ true }
     requires room { length (P.mini pages.old).changed + 2 ≤ most_changed }
     ensures kept { Continues P.Pages pages.old pages.new result }
-    ensures others { P.tells → IfOk result (λ p. KeepsPages (λ q. is_page 0 q || is_page p.0 q)
+    ensures others { P.tells → IfOk result (λ p. KeepsPages
+        (λ q. is_page space_number q || is_page p.0 q)
         (P.contents pages.old) (P.contents pages.new)) }
-    ensures grown { IfOk result (λ p. Grows (0 ∷ p.0 ∷ []) (P.mini pages.old) (P.mini pages.new)) }
+    ensures grown { IfOk result (λ p. Grows (space_number ∷ p.0 ∷ []) (P.mini pages.old) (P.mini pages.new)) }
     ensures inside { IfOk result (λ p. p.0 < (P.shape pages.old).pages) }
     ensures header { P.tells → IfOk result (λ p.
         header_of (page_of (P.contents pages.new) p.0) ≡ fresh_header p.0) }

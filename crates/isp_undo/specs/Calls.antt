@@ -1,7 +1,7 @@
 -- What the calls on undo chains answer, and what they leave.
 use Rattle.std.specs.Prelude.{◌≡◌, ◌⊎◌, ℕ, ◌<◌, Bool, true, List, [], ◌∷◌, ◌++◌, length, Option, Some, None, Result, set, if◌then◌else◌, IfErr, OnOk, ⊤}
 use Rattle.isp_format.specs.Ranges.{Contents}
-use Rattle.isp_format.specs.Rules.{undo_rule, walk_rule}
+use Rattle.isp_format.specs.Rules.{space_number, undo_directory_number, undo_rule, walk_rule}
 use Rattle.isp_format.specs.Undo.{OldImage, Slot as Ends}
 use Rattle.isp_page.specs.Calls.{Continues}
 use Rattle.isp_page.specs.Touched.{KeepsPages}
@@ -53,7 +53,7 @@ HasStackIn g now slots slot chain s = HasStack (g.shape now).pages (g.contents n
 -- space and of the directory.
 pub record Restacks (pages : ℕ) (old new : Contents) (slots : List Ends) (slot : ℕ) (before after : Chain) (s : Space) (more : List ℕ) : Type 0 where
   pub stack : HasStack pages new (set slots slot (ends_of after)) slot after s
-  pub others : KeepsPages (λ other. is_among other (0 ∷ 1 ∷ (pages_of before ++ more))) old new
+  pub others : KeepsPages (λ other. is_among other (space_number ∷ undo_directory_number ∷ (pages_of before ++ more))) old new
 
 abbrev pub RestacksIn : {S : Type 0} → Ghosts S → S → S → List Ends → ℕ → Chain → Chain → Space → List ℕ → Type 0
 RestacksIn g old new slots slot before after s more = Restacks (g.shape new).pages (g.contents old) (g.contents new) slots slot before after s more
