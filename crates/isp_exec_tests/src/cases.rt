@@ -41,22 +41,20 @@ macro_rules! act {
 }
 
 /// Five points of a table, on one leaf.
-static POINTS: [Act; 2] = [
-    setup!(
-        b"CREATE TABLE p (id BIGINT PRIMARY KEY, g GEOMETRY NOT NULL SRID 0, SPATIAL INDEX (g))",
-        [] => b"OK"
-    ),
-    setup!(
-        b"INSERT INTO p VALUES (1,ST_GeomFromText('POINT(0 0)')),\
-        (2,ST_GeomFromText('POINT(10 0)')),(3,ST_GeomFromText('POINT(0 10)')),\
-        (4,ST_GeomFromText('POINT(10 10)')),(5,ST_GeomFromText('POINT(5 5)'))",
-        [Event, Event, Event, Event, Event, Event, Event, Event, Event, Event] => b"OK 5 rows"
-    ),
-];
-
 static ON_ONE_LEAF: Case = Case {
     pages: 128,
-    setup: &POINTS,
+    setup: &[
+        setup!(
+            b"CREATE TABLE p (id BIGINT PRIMARY KEY, g GEOMETRY NOT NULL SRID 0, SPATIAL INDEX (g))",
+            [] => b"OK"
+        ),
+        setup!(
+            b"INSERT INTO p VALUES (1,ST_GeomFromText('POINT(0 0)')),\
+            (2,ST_GeomFromText('POINT(10 0)')),(3,ST_GeomFromText('POINT(0 10)')),\
+            (4,ST_GeomFromText('POINT(10 10)')),(5,ST_GeomFromText('POINT(5 5)'))",
+            [Event, Event, Event, Event, Event, Event, Event, Event, Event, Event] => b"OK 5 rows"
+        ),
+    ],
     acts: &[
         // A key that is named is one event, and a leaf is one.
         act!(b"SELECT id FROM p WHERE id = 5", [Event] => b"OK 1 rows (5)"),
@@ -95,24 +93,22 @@ static ON_ONE_LEAF: Case = Case {
 };
 
 /// Eight rows so wide that they stand on two leaves, four on each.
-static WIDE: [Act; 2] = [
-    setup!(
-        b"CREATE TABLE t (id BIGINT PRIMARY KEY, n BIGINT, a VARCHAR(500), b VARCHAR(500))",
-        [] => b"OK"
-    ),
-    setup!(
-        b"INSERT INTO t VALUES (1,0,'#',''),(2,0,'#',''),(3,0,'#',''),(4,0,'#',''),\
-        (5,0,'#',''),(6,0,'#',''),(7,0,'#',''),(8,0,'#','')",
-        [
-            Event, Event, Event, Event, Event, Event, Event, Event,
-            Event, Event, Event, Event, Event, Event, Event, Event
-        ] => b"OK 8 rows"
-    ),
-];
-
 static ON_TWO_LEAVES: Case = Case {
     pages: 128,
-    setup: &WIDE,
+    setup: &[
+        setup!(
+            b"CREATE TABLE t (id BIGINT PRIMARY KEY, n BIGINT, a VARCHAR(500), b VARCHAR(500))",
+            [] => b"OK"
+        ),
+        setup!(
+            b"INSERT INTO t VALUES (1,0,'#',''),(2,0,'#',''),(3,0,'#',''),(4,0,'#',''),\
+            (5,0,'#',''),(6,0,'#',''),(7,0,'#',''),(8,0,'#','')",
+            [
+                Event, Event, Event, Event, Event, Event, Event, Event,
+                Event, Event, Event, Event, Event, Event, Event, Event
+            ] => b"OK 8 rows"
+        ),
+    ],
     acts: &[
         act!(b"SELECT id FROM t", [Event, Event] => b"OK 8 rows (1) (2) (3) (4) (5) (6) (7) (8)"),
         act!(b"SELECT id FROM t WHERE id = 8", [Event] => b"OK 1 rows (8)"),
@@ -177,11 +173,7 @@ fn open(alloc: Global, pages: u32) -> Result<Context<MemPages>, Fault> {
     Ok(Context { pages, tables, trx })
 }
 
-fn set_up(
-    alloc: Global,
-    context: &mut Context<MemPages>,
-    acts: &[Act],
-) -> Result<bool, Fault> {
+fn set_up(alloc: Global, context: &mut Context<MemPages>, acts: &[Act]) -> Result<bool, Fault> {
     for act in acts {
         if !goes(alloc, context, act)? {
             return Ok(false);
