@@ -47,13 +47,6 @@ pub record HasFileTable {S : Type 0} (g : Ghosts S) (now : S) (def : TableDef) (
   pub is : t.def ≡ def
   pub table : IsFileTable (g.shape now).pages (g.contents now) def.number t
 
--- the leaf behind that page, the first one where none is named, of the table's tree, and its rows
-pub record HasLeafRows {S : Type 0} (g : Ghosts S) (now : S) (def : TableDef) (after : Option ℕ) (tree : Tree) (leaf : TreeLeaf) (rows : List FileRow) : Type 0 where
-  pub is_tree : HasTree g now def.number def.root.0 tree
-  pub behind : leaf_after tree after ≡ Some leaf
-  pub stored : leaf.rows ≡ map (λ (r : FileRow). r.stored) rows
-  pub spell : AllByRecursion (IsFileRow def.schema) rows
-
 -- ---- UPDATE
 
 -- with the new values the row would have more bytes than a row may have
