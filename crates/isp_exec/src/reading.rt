@@ -11,12 +11,12 @@ ghost use Rattle.isp_page.specs.Steps.{IsNoDamageOrLacks};
 ghost use Rattle.isp_page.specs.declared.fault.Fault.TheVariants.{Store};
 ghost use Rattle.isp_page.specs.declared.fault.StoreFault.TheVariants.{Damaged};
 ghost use Rattle.isp_plain.specs.declared.value.Row.{Row};
-ghost use Rattle.isp_scan.specs.Leaves.{HasPiece, IsFoundBehind};
+ghost use Rattle.isp_scan.specs.Leaves.{HasPiece};
 ghost use Rattle.isp_scan.specs.Readings.{AreFoundFor, SetsFitIn};
 ghost use Rattle.isp_scan.specs.Scanning.{HasFileTable};
 ghost use Rattle.isp_tables.specs.Calls.{Serves};
 ghost use Rattle.isp_work.specs.Works.{IsLookOf, IsNotOver, look_by, look_of, next_row};
-ghost use Rattle.isp_exec.specs.Standing.{IsLeft, IsLooking, IsReading};
+ghost use Rattle.isp_exec.specs.Standing.{IsFoundBehind, IsLeft, IsLooking, IsReading};
 
 use isp_catalog::TableDef;
 use isp_format::{CATALOGUE_RULE, PageNo, SPACE_PAGE, WALK_RULE};
