@@ -1,9 +1,12 @@
 pub mod PlaceLaws
 pub mod RowLaws
+pub mod AnswerLaws
 pub mod AtLaws
 pub mod FitLaws
 pub mod HeightLaws
+pub mod PieceLaws
 pub mod ReadAtLaws
 pub mod ChangeAtLaws
+pub mod GoesLaws
 pub mod NextLaws
 pub mod StatementLaws
