@@ -259,7 +259,8 @@ impl Progress {
         noted: usize,
     ) -> Result<(), AllocError>
         requires left { IfSome next (λ page. 1 ≤ self.old.budget) }
-        ensures { OnOk result (self.new ≡ took self.old found next noted) }
+        ensures is { OnOk result (self.new ≡ took self.old found next noted) }
+        ensures small { OnOk result (IsSmall self.new) }
     {
         match found {
             Found::Rows(rows) => {
