@@ -1,7 +1,7 @@
--- What a statement writes fits the columns of its table, from its beginning on and after each turn.
-use Rattle.std.proofs.Common.{◌≡◌, ℕ, ◌+◌, Bool, true, false, cond, List, length, slice_get, Some, None, refl, sym, ◌∙◌, ap, if◌then◌else◌}
+-- What a statement reads and writes fits the columns of its table, from its beginning on and after each step.
+use Rattle.std.proofs.Common.{◌≡◌, ℕ, ◌+◌, Bool, true, false, cond, List, length, slice_get, Option, Some, None, refl, sym, ◌∙◌, ap, subst, if◌then◌else◌}
 use Rattle.std.specs.Prelude.{nat_lt}
-use Rattle.std.specs.List.{position_or_len}
+use Rattle.std.specs.List.{AllByRecursion, position_or_len}
 use Rattle.std.specs.Str.{bytes_eq}
 use Rattle.isp_catalog.specs.declared.table.TableDef.{TableDef}
 use Rattle.isp_changes.specs.Stages.{is_insert}
@@ -21,16 +21,16 @@ use Rattle.isp_tables.specs.TableLists.{place_in}
 
 -- ---- after a turn
 
-pub failed_fit : (n : ℕ) (defs : List TableDef) (work : Progress) (refusal : Refusal) (noted : ℕ) → IsFit n defs (failed_by work refusal noted)
-failed_fit n defs work refusal noted = by (nat_lt work.base noted)
+pub failed_fit : (pages : ℕ) (defs : List TableDef) (work : Progress) (refusal : Refusal) (noted : ℕ) → IsFit pages defs (failed_by work refusal noted)
+failed_fit pages defs work refusal noted = by (nat_lt work.base noted)
   where
-    by : (b : Bool) → IsFit n defs (if b then record work { phase = Undoing refusal } else answered work (reply.Err refusal))
+    by : (b : Bool) → IsFit pages defs (if b then record work { phase = Undoing refusal } else answered work (reply.Err refusal))
     by true = tt
     by false = tt
 
-pub made_fit : (n : ℕ) (defs : List TableDef) (work : Progress) (made : Bool) (noted : ℕ) → IsFit n defs (made_by work made noted)
-made_fit n defs work true noted = tt
-made_fit n defs work false noted = failed_fit n defs work FileFull noted
+pub made_fit : (pages : ℕ) (defs : List TableDef) (work : Progress) (made : Bool) (noted : ℕ) → IsFit pages defs (made_by work made noted)
+made_fit pages defs work true noted = tt
+made_fit pages defs work false noted = failed_fit pages defs work FileFull noted
 
 inserts_not : (s : Statement) → is_insert s ≡ true → is_delete s ≡ false
 inserts_not (Create name schema) is = cc
@@ -43,24 +43,24 @@ inserts_not Commit is = cc
 inserts_not Rollback is = cc
 inserts_not (Refused refusal) is = cc
 
-pub went_fit : (n : ℕ) (defs : List TableDef) (work : Progress) → IsChanging defs work → IsFit n defs (went_on work)
-went_fit n defs work is = by (nat_lt work.next (length (rows_named work.statement work.rows)))
+pub went_fit : (pages : ℕ) (defs : List TableDef) (work : Progress) → IsChanging defs work → IsFit pages defs (went_on work)
+went_fit pages defs work is = by (nat_lt work.next (length (rows_named work.statement work.rows)))
   where
-    first : (inserts : Bool) → is_insert work.statement ≡ inserts → IsFitIn n defs (record work { phase = first_of inserts }) (first_of inserts)
+    first : (inserts : Bool) → is_insert work.statement ≡ inserts → IsFitIn pages defs (record work { phase = first_of inserts }) (first_of inserts)
     first true inserts = record { def = is.def; is_there = is.is_there; inserts = inserts; rows = is.rows (inserts_not work.statement inserts) }
     first false inserts = record { def = is.def; is_there = is.is_there; rows = is.rows }
 
-    by : (b : Bool) → IsFit n defs (if b then record work { phase = first_of (is_insert work.statement) } else answered work (reply.Count work.next))
+    by : (b : Bool) → IsFit pages defs (if b then record work { phase = first_of (is_insert work.statement) } else answered work (reply.Count work.next))
     by true = first (is_insert work.statement) refl
     by false = tt
 
-pub looked_fit : (n : ℕ) (defs : List TableDef) (work : Progress) (l : Looked) (noted : ℕ) → IsLooking defs work → IsFit n defs (looked_by work l noted)
-looked_fit n defs work looked.Over noted is = went_fit n defs work (record { def = is.def; is_there = is.is_there; rows = λ _. is.rows })
-looked_fit n defs work looked.Free noted is = record { def = is.def; is_there = is.is_there; rows = λ _. is.rows }
-looked_fit n defs work (looked.Taken refusal) noted is = failed_fit n defs work refusal noted
+pub looked_fit : (pages : ℕ) (defs : List TableDef) (work : Progress) (l : Looked) (noted : ℕ) → IsLooking defs work → IsFit pages defs (looked_by work l noted)
+looked_fit pages defs work looked.Over noted is = went_fit pages defs work (record { def = is.def; is_there = is.is_there; rows = λ _. is.rows })
+looked_fit pages defs work looked.Free noted is = record { def = is.def; is_there = is.is_there; rows = λ _. is.rows }
+looked_fit pages defs work (looked.Taken refusal) noted is = failed_fit pages defs work refusal noted
 
-pub passed_fit : (n : ℕ) (defs : List TableDef) (work : Progress) → IsChanging defs work → IsFit n defs (passed work)
-passed_fit n defs work is = went_fit n defs (record work { next = work.next + 1 }) (record { def = is.def; is_there = is.is_there; rows = is.rows })
+pub passed_fit : (pages : ℕ) (defs : List TableDef) (work : Progress) → IsChanging defs work → IsFit pages defs (passed work)
+passed_fit pages defs work is = went_fit pages defs (record work { next = work.next + 1 }) (record { def = is.def; is_there = is.is_there; rows = is.rows })
 
 -- ---- at the beginning
 

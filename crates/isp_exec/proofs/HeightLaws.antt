@@ -59,7 +59,7 @@ failed_height work refusal noted = by (nat_lt work.base noted)
 
 -- ---- it falls
 
-height_at : (work : Progress) (noted : ℕ) (p : WorkPhase) → work.phase ≡ p → height work noted ≡ height_in work (noted - work.base) p
+pub height_at : (work : Progress) (noted : ℕ) (p : WorkPhase) → work.phase ≡ p → height work noted ≡ height_in work (noted - work.base) p
 height_at work noted p is = ap (height_in work (noted - work.base)) is
 
 pub made_falls : (work : Progress) (made : Bool) (noted : ℕ) → work.phase ≡ Creating → height (made_by work made noted) noted < height work noted

@@ -6,6 +6,8 @@ pub mod FitLaws
 pub mod HeightLaws
 pub mod PieceLaws
 pub mod ReadAtLaws
+pub mod ReadFitLaws
+pub mod StartAtLaws
 pub mod ChangeAtLaws
 pub mod GoesLaws
 pub mod NextLaws
