@@ -1,5 +1,5 @@
 -- A step of a statement on a file: what it answers, and where it leaves the statement.
-use Rattle.std.proofs.Common.{◌≡◌, ℕ, Bool, true, false, List, Option, Some, None, refl, ap, if◌then◌else◌}
+use Rattle.std.proofs.Common.{◌≡◌, ℕ, Bool, true, false, List, Option, Some, None, refl, sym, ◌∙◌, ap, subst, if◌then◌else◌}
 use Rattle.std.specs.Prelude.{nat_lt}
 use Rattle.isp_catalog.specs.declared.table.TableDef.{TableDef}
 use Rattle.isp_image.specs.Databases.{Database}
@@ -15,11 +15,12 @@ use Rattle.isp_work.specs.declared.phase.Phase.{Phase as WorkPhase}
 use Rattle.isp_work.specs.declared.phase.Phase.TheVariants.{Creating, Reading, Looking, Changing, Undoing, RollingBack, Ready}
 use Rattle.isp_work.specs.declared.progress.Progress.{Progress}
 use Rattle.isp_exec.specs.Events.{Goes, event_by, goes_on}
-use Rattle.isp_exec.specs.Standing.{IsAt}
+use Rattle.isp_exec.specs.Standing.{IsAt, IsFit, height}
 use Rattle.isp_exec.specs.declared.step.Step.{Step}
 use Rattle.isp_exec.specs.declared.step.Step.TheVariants as answers
 use Rattle.isp_exec.proofs.AnswerLaws.{given_by}
 use Rattle.isp_exec.proofs.AtLaws.{Comes}
+use Rattle.isp_exec.proofs.StatementLaws.{made_keeps}
 
 pub no_answer : (o : Option Refusal) (answer : Reply) → event_by o ≡ answers.Ready answer → ⊥
 no_answer None answer is = cc
@@ -38,7 +39,37 @@ stops answer is = cc
 abbrev pub handed_by : Progress → Progress
 handed_by work = if is_ready work.phase then record work { reply = reply.Ok } else work
 
+pub handed_height : (work : Progress) (noted : ℕ) → height (handed_by work) noted ≡ height work noted
+handed_height work noted = by (is_ready work.phase)
+  where
+    by : (b : Bool) → height (if b then record work { reply = reply.Ok } else work) noted ≡ height work noted
+    by true = refl
+    by false = refl
+
+handed_keeps : (work : Progress) → (handed_by work).statement ≡ work.statement
+handed_keeps work = by (is_ready work.phase)
+  where
+    by : (b : Bool) → (if b then record work { reply = reply.Ok } else work).statement ≡ work.statement
+    by true = refl
+    by false = refl
+
+pub handed_made : (work : Progress) (made : Bool) (noted : ℕ) → (handed_by (made_by work made noted)).statement ≡ work.statement
+handed_made work made noted = handed_keeps (made_by work made noted) ∙ made_keeps work made noted
+
+pub handed_fit : (n : ℕ) (defs : List TableDef) (work : Progress) (made : Bool) (noted : ℕ) → IsFit n defs (handed_by (made_by work made noted))
+handed_fit n defs work true noted = tt
+handed_fit n defs work false noted = by (nat_lt work.base noted)
+  where
+    by : (b : Bool) → IsFit n defs (handed_by (if b then record work { phase = Undoing FileFull } else answered work (reply.Err FileFull)))
+    by true = tt
+    by false = tt
+
 module _ {S : Type 0} (g : Ghosts S) (old : S) (defs : List TableDef) (trx : TrxState) (start : Database) (work : Progress) (at : IsAt g old defs trx start work) (now : S) (defs_now : List TableDef) (trx_now : TrxState) where
+  -- the same of other names
+  pub goes_as : (a b : Progress) (s t : Step) → a ≡ b → s ≡ t → Goes g at now defs_now trx_now b t → Goes g at now defs_now trx_now a s
+  goes_as a b s t is same goes =
+      subst (λ (w : Progress). Goes g at now defs_now trx_now w s) (sym is) (subst (λ (x : Step). Goes g at now defs_now trx_now b x) (sym same) goes)
+
   -- it goes on
   pub goes_by : (o : Option Refusal) (work_now : Progress) → Comes g at now defs_now trx_now work_now (event_by o) → Goes g at now defs_now trx_now work_now (event_by o)
   goes_by o work_now c = record {

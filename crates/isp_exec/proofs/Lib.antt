@@ -11,4 +11,5 @@ pub mod StartAtLaws
 pub mod ChangeAtLaws
 pub mod GoesLaws
 pub mod NextLaws
+pub mod RollLaws
 pub mod StatementLaws

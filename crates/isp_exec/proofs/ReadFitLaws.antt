@@ -126,5 +126,5 @@ module _ (pages : ℕ) (defs : List TableDef) (base budget : ℕ) where
   start_fit (Delete name w) suits = read_fit (Delete name w) name (place_in defs name) refl refl refl (λ place def named is. tt)
   start_fit Begin suits = tt
   start_fit Commit suits = tt
-  start_fit Rollback suits = tt
+  start_fit Rollback suits = refl
   start_fit (Refused refusal) suits = tt

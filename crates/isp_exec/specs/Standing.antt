@@ -61,10 +61,10 @@ IsFitIn pages defs work Reading = IsReading pages defs work
 IsFitIn pages defs work Looking = IsLooking defs work
 IsFitIn pages defs work Changing = IsChanging defs work
 IsFitIn pages defs work (Undoing refusal) = Unit {0}
-IsFitIn pages defs work RollingBack = Unit {0}
+IsFitIn pages defs work RollingBack = work.base ≡ 0
 IsFitIn pages defs work Ready = Unit {0}
 
--- what it is to read and to write fits the columns of its table
+-- what it is to read and to write fits the columns of its table; a ROLLBACK takes back all that is noted
 abbrev pub IsFit : ℕ → List TableDef → Progress → Type 0
 IsFit pages defs work = IsFitIn pages defs work work.phase
 
