@@ -242,10 +242,11 @@ module _ (schema : Schema) where
   first_next (leaf ∷ leaves) rows piece left is all pieces =
       let n = length leaf.rows in
       let itself : (leaf.page == leaf.page) ≡ true = grind arith in
+      let count = times_itself leaf.page (leaf_pages leaves) in
       record {
         leaf = leaf;
         there = refl;
-        among = times_itself leaf.page (leaf_pages leaves);
+        among = omega (arith, count);
         here = take n rows;
         stored = stored_first leaf.rows (all_rows leaves) rows is;
         spell = all_first (IsFileRow schema) n rows all;

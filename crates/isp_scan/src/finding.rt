@@ -2,8 +2,6 @@
 
 ghost use Rattle.std.specs.Prelude.{◌≡◌, List, IfErr, IfOk};
 ghost use Rattle.isp_image.specs.Databases.{FileRow, shown};
-ghost use Rattle.isp_image.specs.Faults.{NamesLaterOrLacks};
-ghost use Rattle.isp_page.specs.Steps.{IsNoDamageOrLacks};
 ghost use Rattle.isp_row.specs.declared.error.RowError.TheVariants.{OutOfMemory};
 ghost use Rattle.isp_work.specs.Finding.{found_in, held_by, updated_by};
 ghost use Rattle.isp_scan.specs.Readings.{AreFoundFor, AreFoundNew, SetsFit, SetsFitIn};
@@ -12,10 +10,7 @@ ghost use Rattle.isp_scan.specs.Scanning.{AreKeptAs};
 use crate::cut::cut_rows;
 use crate::held::held_in;
 use crate::rows::updated_rows;
-use isp_catalog::TableDef;
 use isp_clustered::KeptRow;
-use isp_format::{PageNo, ROWS_RULE};
-use isp_page::{Fault, StoreFault};
 use isp_plain::{Assign, Condition, Rows, Schema, Statement};
 use isp_row::RowError;
 use isp_work::Found;
@@ -43,8 +38,12 @@ fn updated_in(
     }
 }
 
-// What a statement finds: SELECT the rows of its answer, UPDATE those that it writes, DELETE those that it deletes.
-fn found_in(
+/// What a statement finds: SELECT the rows of its answer, UPDATE those that it writes, DELETE those that it deletes.
+///
+/// # Errors
+///
+/// NotRow, where bytes spell no row of the schema; want of memory.
+pub fn found_in(
     alloc: Global,
     schema: &Schema,
     statement: &Statement,
@@ -69,35 +68,5 @@ fn found_in(
             Ok(Found::Rows(rows))
         }
         _ => Ok(Found::Rows(Rows::new(alloc))),
-    }
-}
-
-/// What a statement finds among rows of its table.
-///
-/// # Errors
-///
-/// Want of memory; or Damaged, with that page and rule 8, where the bytes of one of them spell no row of the table.
-pub fn found_on(
-    alloc: Global,
-    def: &TableDef,
-    statement: &Statement,
-    page: PageNo,
-    leaf: &[KeptRow],
-) -> Result<Found, Fault>
-    requires sets { SetsFitIn def.now.schema statement.now }
-    ensures rows { IfOk result (AreFoundFor def.now.schema statement.now) }
-    ensures found { (rows : List FileRow) → AreKeptAs def.now.schema leaf.now rows
-        → IfOk result (λ found. found ≡ found_in def.now.schema statement.now (shown rows)) }
-    ensures sound { (rows : List FileRow) → AreKeptAs def.now.schema leaf.now rows
-        → IfErr result IsNoDamageOrLacks }
-    ensures later { IfErr result NamesLaterOrLacks }
-{
-    match found_in(alloc, &def.schema, statement, leaf) {
-        Ok(found) => Ok(found),
-        Err(RowError::NotRow) => Err(Fault::Store(StoreFault::Damaged {
-            page: page.0,
-            rule: ROWS_RULE,
-        })),
-        Err(RowError::OutOfMemory) => Err(Fault::Memory),
     }
 }

@@ -13,12 +13,14 @@ ghost use Rattle.isp_scan.specs.Keys.{key_of_path, named_key};
 ghost use Rattle.isp_scan.specs.Readings.{AreFoundFor, SetsFitIn};
 ghost use Rattle.isp_scan.specs.Scanning.{AreKeptAs, HasFileTable};
 
-use crate::finding::found_on;
+use crate::finding::found_in;
 use isp_catalog::TableDef;
 use isp_clustered::{KeptRow, KeptRows, get};
-use isp_page::{Fault, Pages};
+use isp_format::ROWS_RULE;
+use isp_page::{Fault, Pages, StoreFault};
 use isp_paths::{Path, path_of};
 use isp_plain::Statement;
+use isp_row::RowError;
 use isp_work::Found;
 use std::alloc::Global;
 
@@ -96,6 +98,12 @@ pub fn read_key<P: Pages>(
     ensures later { IfErr result NamesLaterOrLacks }
 {
     let there = row_of(alloc, pages, def, key)?;
-    let found = found_on(alloc, def, statement, def.root, there.as_slice())?;
-    Ok(found)
+    match found_in(alloc, &def.schema, statement, there.as_slice()) {
+        Ok(found) => Ok(found),
+        Err(RowError::NotRow) => Err(Fault::Store(StoreFault::Damaged {
+            page: def.root.0,
+            rule: ROWS_RULE,
+        })),
+        Err(RowError::OutOfMemory) => Err(Fault::Memory),
+    }
 }

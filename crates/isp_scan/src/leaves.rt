@@ -12,12 +12,13 @@ ghost use Rattle.isp_scan.specs.Leaves.{IsBehind, IsLeafFound, Piece};
 ghost use Rattle.isp_scan.specs.Readings.{AreFoundFor, SetsFitIn};
 ghost use Rattle.isp_scan.specs.Scanning.{HasFileTable};
 
-use crate::finding::found_on;
+use crate::finding::found_in;
 use isp_catalog::TableDef;
 use isp_clustered::{Leaf, next_leaf};
-use isp_format::PageNo;
-use isp_page::{Fault, Pages};
+use isp_format::{PageNo, ROWS_RULE};
+use isp_page::{Fault, Pages, StoreFault};
 use isp_plain::Statement;
+use isp_row::RowError;
 use isp_work::Found;
 use std::alloc::Global;
 
@@ -73,7 +74,15 @@ pub fn read_leaf<P: Pages>(
     ensures later { IfErr result NamesLaterOrLacks }
 {
     let leaf = next_leaf(alloc, pages, def.root, after)?;
-    let found = found_on(alloc, def, statement, leaf.page, leaf.rows.as_slice())?;
-    let next = going_on(&leaf);
-    Ok(LeafFound { found, next })
+    match found_in(alloc, &def.schema, statement, leaf.rows.as_slice()) {
+        Ok(found) => {
+            let next = going_on(&leaf);
+            Ok(LeafFound { found, next })
+        }
+        Err(RowError::NotRow) => Err(Fault::Store(StoreFault::Damaged {
+            page: leaf.page.0,
+            rule: ROWS_RULE,
+        })),
+        Err(RowError::OutOfMemory) => Err(Fault::Memory),
+    }
 }

@@ -13,20 +13,20 @@ returns-in_err-leaf-clause-sound g c tells t piece left has behind =
     let sound = c.in_err-leaf.ensures.sound tells c.args.def.now.number t.tree n.leaf (tree_of g.P.Pages c.args.pages.now c.args.def.now t has) n.there in
     search (rules, sound, c.from_residual.ensures)
 
-pub returns-in_err-found-clause-sound : goal.returns-in_err-found-clause-sound
-returns-in_err-found-clause-sound g c tells t piece left has behind =
+pub returns-in-Err-NotRow-clause-sound : goal.returns-in-Err-NotRow-clause-sound
+returns-in-Err-NotRow-clause-sound g c tells t piece left has behind =
     let n = next_leaf_is g.P.Pages c.args.pages.now c.args.def.now t (number_of c.args.after) piece left has behind in
     let is = c.in_ok-leaf.ensures.leaf tells c.args.def.now.number t.tree n.leaf (tree_of g.P.Pages c.args.pages.now c.args.def.now t has) n.there in
     let kept = leaf_kept c.args.def.now.schema t.tree n.leaf n.here c.in_ok-leaf.leaf _ n.stored n.spell is c.as_slice.ensures in
-    let sound = c.in_err-found.ensures.sound n.here kept in
-    search (rules, sound, c.from_residual-in_err-found.ensures)
+    let bad = c.in-Err-NotRow.ensures.sound n.here kept in
+    cc
 
-pub returns-clause-found : goal.returns-clause-found
-returns-clause-found g c tells t piece left has behind =
+pub returns-in-Ok-clause-found : goal.returns-in-Ok-clause-found
+returns-in-Ok-clause-found g c tells t piece left has behind =
     let n = next_leaf_is g.P.Pages c.args.pages.now c.args.def.now t (number_of c.args.after) piece left has behind in
     let is = c.in_ok-leaf.ensures.leaf tells c.args.def.now.number t.tree n.leaf (tree_of g.P.Pages c.args.pages.now c.args.def.now t has) n.there in
     let kept = leaf_kept c.args.def.now.schema t.tree n.leaf n.here c.in_ok-leaf.leaf _ n.stored n.spell is c.as_slice.ensures in
     record {
-      found = c.in_ok-found.ensures.found n.here kept ∙ ap (found_in c.args.def.now.schema c.args.statement.now) n.piece_is;
+      found = c.in-Ok.ensures.found n.here kept ∙ ap (found_in c.args.def.now.schema c.args.statement.now) n.piece_is;
       next = subst (λ (next : Option PageNo). IsNext t next left) (sym c.going_on-next.ensures) (goes_on t n.leaf left c.in_ok-leaf.leaf.next c.in_ok-leaf.leaf.page is.page is.next n.left_is);
     }
