@@ -31,23 +31,23 @@ use Rattle.isp_row.specs.RowSpelling.{IsRowOf}
 use Rattle.isp_scan.specs.Leaves.{HasPiece, IsLeafFound, IsNext as IsNextPiece, Piece}
 use Rattle.isp_scan.specs.Readings.{SetsFitIn}
 use Rattle.isp_scan.specs.declared.leaves.LeafFound.{LeafFound}
-use Rattle.isp_scan.proofs.RowLaws.{are_keyed, are_rows, sets_keep}
+use Rattle.isp_scan.proofs.RowLaws.{are_rows}
 use Rattle.isp_tables.specs.Opened.{IsAtPlace, IsOpen, defs_in}
 use Rattle.isp_tables.proofs.TableLaws.{at_place, file_table, plain_at}
 use Rattle.isp_trx.specs.Transactions.{TrxState}
 use Rattle.isp_trx_laws.specs.FileStages.{IsStageOf}
 use Rattle.isp_work.specs.Finding.{found_in, reads}
-use Rattle.isp_work.specs.Works.{AreReadAs, Pieces, answered, failed_by, first_of, is_delete, is_select, phase_at, read_out, rows_left, rows_named, schema_in, stage_of, took, went_on}
+use Rattle.isp_work.specs.Works.{AreReadAs, AreReadOf, Pieces, answered, failed_by, first_of, is_delete, is_select, phase_at, read_out, rows_left, rows_named, schema_in, stage_of, took, went_on}
 use Rattle.isp_work.specs.declared.found.Found.{Found}
 use Rattle.isp_work.specs.declared.found.Found.TheVariants as found
 use Rattle.isp_work.specs.declared.phase.Phase.{Phase as WorkPhase}
 use Rattle.isp_work.specs.declared.phase.Phase.TheVariants.{Creating, Reading, Looking, Changing, Undoing, RollingBack, Ready}
 use Rattle.isp_work.specs.declared.progress.Progress.{Progress}
-use Rattle.isp_work.proofs.StageLaws.{failed_same, went_same}
+use Rattle.isp_work.proofs.ReadLaws.{KeepsKeysIn, kept_on, read_of_on, took_same}
 use Rattle.isp_exec.specs.Events.{IsNext, answer_by, answer_of, event_by, refusal_in}
-use Rattle.isp_exec.specs.Standing.{AreDeletable, AreWritable, AreWritableNow, HasRead, IsAt, IsFoundBehind, Leads, stage_in, writes}
+use Rattle.isp_exec.specs.Standing.{AreDeletable, AreWritable, AreWritableNow, HasRead, IsAt, IsFoundBehind, IsLeft, Leads, stage_in, writes}
 use Rattle.isp_exec.proofs.AtLaws.{failed_writable, no_way, some_noted, went_writable}
-use Rattle.isp_exec.proofs.PieceLaws.{GoesWith, KeepsFound, KeepsIn, is_large, keeps_front, keeps_held, outgrows_is, reads_on, took_stage, whole_on}
+use Rattle.isp_exec.proofs.PieceLaws.{GoesWith, behind_is, behind_read, is_large, keeps_keys, of_first, outgrows_is, own_keys, took_stage}
 use Rattle.isp_exec.proofs.RowLaws.{all_by, all_held, all_mapped, and_first, and_rest, read_deletable}
 
 -- ---- no line feed
@@ -117,30 +117,6 @@ out_behind work = by (is_select work.statement)
 not_behind : (work : Progress) (p : WorkPhase) → is_behind work.phase ≡ true → is_behind p ≡ false → work.phase ≡ p → ⊥
 not_behind work p is not phase = let bad : true ≡ false = sym is ∙ ap is_behind phase ∙ not in cc
 
-out_statement : (work : Progress) → (read_out work).statement ≡ work.statement
-out_statement work = by (is_select work.statement)
-  where
-    by : (b : Bool) → (if b then answered (record work { rows = [] }) (reply.Rows work.rows) else went_on work).statement ≡ work.statement
-    by true = refl
-    by false = (went_same work).statement
-
-out_base : (work : Progress) → (read_out work).base ≡ work.base
-out_base work = by (is_select work.statement)
-  where
-    by : (b : Bool) → (if b then answered (record work { rows = [] }) (reply.Rows work.rows) else went_on work).base ≡ work.base
-    by true = refl
-    by false = (went_same work).base
-
-pub took_statement : (work : Progress) (f : Found) (next : Option PageNo) (count : ℕ) → (took work f next count).statement ≡ work.statement
-took_statement work (found.Rows rows) (Some page) count = refl
-took_statement work (found.Rows rows) None count = out_statement (record work { rows = work.rows ++ rows })
-took_statement work found.TooLarge next count = (failed_same work RowTooLarge count).statement
-
-pub took_base : (work : Progress) (f : Found) (next : Option PageNo) (count : ℕ) → (took work f next count).base ≡ work.base
-took_base work (found.Rows rows) (Some page) count = refl
-took_base work (found.Rows rows) None count = out_base (record work { rows = work.rows ++ rows })
-took_base work found.TooLarge next count = (failed_same work RowTooLarge count).base
-
 took_other : (work : Progress) (f : Found) (next : Option PageNo) (count : ℕ) → work.phase ≡ Reading → (took work f next count).phase ≡ RollingBack → ⊥
 took_other work (found.Rows rows) (Some page) count phase is = let bad : Reading ≡ RollingBack = sym phase ∙ is in cc
 took_other work (found.Rows rows) None count phase is = not_behind (took work (found.Rows rows) None count) RollingBack (out_behind (record work { rows = work.rows ++ rows })) refl is
@@ -148,27 +124,32 @@ took_other work found.TooLarge next count phase is = not_behind (took work found
 
 -- ---- more of it is left
 
--- what it keeps, of the piece too, and what is left behind the piece
+-- what it keeps where the rows that it found are kept
+abbrev pub KeepsFound : Statement → List (ℤ × Row) → List Row → Found → Type 0
+KeepsFound s read rows (found.Rows new) = AreReadAs s read (rows ++ new)
+KeepsFound s read rows found.TooLarge = Unit {0}
+
+kept_found : (s : Statement) (schema : Schema) (read piece : List (ℤ × Row)) (rows : List Row) (f : Found) → f ≡ found_in schema s piece → AreKeyed piece → KeepsKeysIn schema s piece → AreReadAs s read rows
+    → KeepsFound s (read ++ held s piece) rows f
+kept_found s schema read piece rows (found.Rows new) is keyed keeps had = kept_on schema s read piece rows new is keyed keeps had
+kept_found s schema read piece rows found.TooLarge is keyed keeps had = tt
+
 module _ (d : Database) (work : Progress) (pieces : Pieces) (r : HasRead d work pieces) where
-  read_few : (page : PageNo) (new : List Row) → HasPiece r.more.later → length r.more.later ≤ (work.budget - 1) + 1
-  read_few page new later =
+  pub whole_behind : AreReadOf work.statement (shown r.table.rows) (behind_read pieces work.statement r.more)
+  whole_behind = subst (AreReadOf work.statement (shown r.table.rows)) (behind_is pieces work.statement r.more) (read_of_on work.statement (shown r.table.rows) pieces r.whole)
+
+  few_behind : HasPiece r.more.later → length r.more.later ≤ (work.budget - 1) + 1
+  few_behind later =
       let had : length pieces.left ≡ suc (length r.more.later) = ap (λ (l : List Piece). length l) r.more.is in
       let some : length r.more.later ≡ suc (length later.later) = ap (λ (l : List Piece). length l) later.is in
       let few = r.few in omega (arith, had, some, few)
 
-  reads_more : (f : Found) (next : Option PageNo) (count : ℕ) → KeepsFound work.statement (pieces.read ++ held work.statement r.more.first) work.rows f → IsNextPiece r.table next r.more.later
-      → (took work f next count).phase ≡ Reading → HasRead d (took work f next count) (record { read = pieces.read ++ held work.statement r.more.first; left = r.more.later })
-  reads_more (found.Rows rows) (Some page) count kept next phase = record {
-    table = r.table;
-    is_there = r.is_there;
-    kept = kept;
-    whole = whole_on work.statement pieces.read r.more.first r.more.later ∙ ap (λ (l : List Piece). pieces.read ++ held work.statement (joined l)) (sym r.more.is) ∙ r.whole;
-    more = next.0;
-    left = next.1;
-    few = read_few page rows next.0;
-  }
-  reads_more (found.Rows rows) None count kept next phase = absurd (not_behind (took work (found.Rows rows) None count) Reading (out_behind (record work { rows = work.rows ++ rows })) refl phase)
-  reads_more found.TooLarge next count kept next_is phase = absurd (not_behind (took work found.TooLarge next count) Reading (failed_behind work RowTooLarge count) refl phase)
+  pub has_read_on : (f : Found) (next : Option PageNo) (count : ℕ) → KeepsFound work.statement (pieces.read ++ held work.statement r.more.first) work.rows f → IsNextPiece r.table next r.more.later
+      → (took work f next count).phase ≡ Reading → HasRead d (took work f next count) (behind_read pieces work.statement r.more)
+  has_read_on (found.Rows rows) (Some page) count kept next phase =
+      record { table = r.table; is_there = r.is_there; kept = kept; whole = whole_behind; more = next.0; left = next.1; few = few_behind next.0 }
+  has_read_on (found.Rows rows) None count kept next phase = absurd (not_behind (took work (found.Rows rows) None count) Reading (out_behind (record work { rows = work.rows ++ rows })) refl phase)
+  has_read_on found.TooLarge next count kept next_is phase = absurd (not_behind (took work found.TooLarge next count) Reading (failed_behind work RowTooLarge count) refl phase)
 
 -- ---- all of it is read
 
@@ -210,21 +191,6 @@ took_writable work d table read left (found.Rows rows) None count phase first is
 took_writable work d table read left found.TooLarge next count phase first is lined there rises own lines whole kept goes = failed_writable work RowTooLarge count d
 
 -- ---- what was found
-
-keeps_shown : (schema : Schema) (s : Statement) (rows : List (ℤ × Row)) → SetsFitIn schema s → AllByRecursion (λ (e : ℤ × Row). IsRowOf schema e.0 e.1) rows → AreKeyed rows → KeepsIn s rows
-keeps_shown schema (Create name others) rows fit all own = tt
-keeps_shown schema (Insert name new) rows fit all own = tt
-keeps_shown schema (Select name columns w) rows fit all own = tt
-keeps_shown schema (Update name sets w) rows fit all own = sets_keep schema sets rows fit all
-keeps_shown schema (Delete name w) rows fit all own = own
-keeps_shown schema Begin rows fit all own = tt
-keeps_shown schema Commit rows fit all own = tt
-keeps_shown schema Rollback rows fit all own = tt
-keeps_shown schema (Refused refusal) rows fit all own = tt
-
-kept_found : (s : Statement) (schema : Schema) (read piece : List (ℤ × Row)) (rows : List Row) (f : Found) → f ≡ found_in schema s piece → KeepsIn s (read ++ held s piece) → AreReadAs s read rows → KeepsFound s (read ++ held s piece) rows f
-kept_found s schema read piece rows (found.Rows new) is keeps had = reads_on s schema read piece rows new is keeps had
-kept_found s schema read piece rows found.TooLarge is keeps had = tt
 
 goes_with : (t : FileTable) (next : Option PageNo) (left : List Piece) → IsNextPiece t next left → GoesWith next left
 goes_with t None left is = is
@@ -308,28 +274,28 @@ module _ {S : Type 0} (g : Ghosts S) (old new : S) (defs : List TableDef) (trx :
       let r = at.read phase in
       let t = r.table in
       let piece = r.more.first in
-      let left = r.more.later in
       let f = leaf.found in
       let next = leaf.next in
       let count = trx.count in
-      let read = at.pieces.read ++ held s piece in
-      let is = leaf_found in
       let place = place_read at.db defs work at.pieces def r at.opened.defs_are there in
       let plain = plain_at at.db work.place def place in
       let has = file_table g new defs trx at.db work.place def opened place in
       let kept_file = opened.kept.holds.kept in
-      let whole : read ++ held s (joined left) ≡ held s (shown t.rows) = whole_on s at.pieces.read piece left ∙ ap (λ (l : List Piece). at.pieces.read ++ held s (joined l)) (sym r.more.is) ∙ r.whole in
-      let all = keeps_held s (shown t.rows) (keeps_shown def.schema s (shown t.rows) sets (are_rows g new def t has) (are_keyed g new def t has)) in
-      let keeps : KeepsIn s read = keeps_front s read (held s (joined left)) (subst (KeepsIn s) (sym whole) all) in
-      let kept = kept_found s def.schema at.pieces.read piece work.rows f is.found keeps r.kept in
-      let goes = goes_with t next left is.next in
+      let left : IsLeft t s work.after (piece ∷ r.more.later) = subst (IsLeft t s work.after) r.more.is r.left in
+      let rows = of_first g new def t has s piece r.more.later (λ (e : ℤ × Row). IsRowOf def.schema e.0 e.1) (are_rows g new def t has) work.after left in
+      let keyed = own_keys def.schema piece rows in
+      let keeps = keeps_keys def.schema s piece sets rows in
+      let kept = kept_found s def.schema at.pieces.read piece work.rows f leaf_found.found keyed keeps r.kept in
+      let goes = goes_with t next r.more.later leaf_found.next in
       let lines = all_by is_lined_row (values_of (shown t.rows)) (lined_at (tables_of at.db) work.place (table_of t) (kept_is_plain n contents at.db kept_file).lined plain) in
-      reads_next g old new defs trx start work (took work f next count) at pages (record { read = read; left = left }) opened (ap asks_room stage_reads)
-      (took_stage (tables_of at.db) at.noted at.pieces work r.more f next count phase first reads_rows (some_noted g old defs trx start work at) outgrows_so kept goes)
-      (took_statement work f next count) (took_base work f next count)
-      (reads_more at.db work at.pieces r f next count kept is.next)
-      (took_writable work at.db (table_of t) read left f next count phase first reads_rows at.lined plain (table_rises n contents at.db work.place t kept_file r.is_there) (table_keyed n contents at.db work.place t kept_file r.is_there)
-      lines whole kept goes)
+      let same = took_same work f next count in
+      reads_next g old new defs trx start work (took work f next count) at pages (behind_read at.pieces s r.more) opened (ap asks_room stage_reads)
+      (took_stage (tables_of at.db) at.noted at.pieces work count (table_of t) r.more f next (some_noted g old defs trx start work at) phase plain first reads_rows
+      (leaf_found.found ∙ ap (λ (x : TableDef). found_in x.schema s piece) (sym place.is)) keyed (subst (λ (x : TableDef). KeepsKeysIn x.schema s piece) (sym place.is) keeps) r.kept goes)
+      same.statement same.base
+      (has_read_on at.db work at.pieces r f next count kept leaf_found.next)
+      (took_writable work at.db (table_of t) (at.pieces.read ++ held s piece) r.more.later f next count phase first reads_rows at.lined plain
+      (table_rises n contents at.db work.place t kept_file r.is_there) (table_keyed n contents at.db work.place t kept_file r.is_there) lines (whole_behind at.db work at.pieces r) kept goes)
       (took_other work f next count phase)
 
   -- what it answers

@@ -1,9 +1,9 @@
 -- A statement on its way, on a file: what is known of it whatever the pages hold, and where it stands on a database.
-use Rattle.std.specs.Prelude.{◌≡◌, ℕ, ◌+◌, ◌-◌, ◌*◌, ◌^◌, ◌<◌, ◌≤◌, ℤ, Bool, true, false, List, [], ◌∷◌, ◌++◌, length, map, slice_get, Option, Some, None, IfSome, if◌then◌else◌}
+use Rattle.std.specs.Prelude.{◌≡◌, ℕ, ◌+◌, ◌-◌, ◌*◌, ◌^◌, ◌<◌, ◌≤◌, ℤ, Bool, true, false, List, [], ◌∷◌, length, map, slice_get, Option, Some, None, IfSome, if◌then◌else◌}
 use Rattle.std.specs.List.{AllByRecursion}
 use Rattle.isp_base.specs.declared.page_no.PageNo.{PageNo}
 use Rattle.isp_catalog.specs.declared.table.TableDef.{TableDef}
-use Rattle.isp_changes.specs.Changes.{RowChange, found_at, held, joined}
+use Rattle.isp_changes.specs.Changes.{RowChange, found_at}
 use Rattle.isp_changes.specs.Rows.{AreRising}
 use Rattle.isp_changes.specs.Stages.{IsOnTheWay, Stage, found_full, is_insert, outcome_of}
 use Rattle.isp_chained.specs.Courses.{Reaches}
@@ -25,7 +25,7 @@ use Rattle.isp_scan.specs.Leaves.{HasPiece, IsBehind, IsLeafFound, Piece, leaf_p
 use Rattle.isp_scan.specs.Readings.{AreFoundFor, IsPutRow, SetsFitIn}
 use Rattle.isp_scan.specs.declared.leaves.LeafFound.{LeafFound}
 use Rattle.isp_work.specs.Finding.{reads}
-use Rattle.isp_work.specs.Works.{AreReadAs, Pieces, is_delete, rows_left, rows_named, stage_of}
+use Rattle.isp_work.specs.Works.{AreReadAs, AreReadOf, Pieces, is_delete, rows_left, rows_named, stage_of}
 use Rattle.isp_work.specs.declared.found.Found.TheVariants as found
 use Rattle.isp_work.specs.declared.phase.Phase.{Phase as WorkPhase}
 use Rattle.isp_work.specs.declared.phase.Phase.TheVariants.{Creating, Reading, Looking, Changing, Undoing, RollingBack, Ready}
@@ -139,7 +139,7 @@ pub record HasRead (d : Database) (work : Progress) (pieces : Pieces) : Type 0 w
   pub table : FileTable
   pub is_there : slice_get d.tables work.place ≡ Some table
   pub kept : AreReadAs work.statement pieces.read work.rows
-  pub whole : pieces.read ++ held work.statement (joined pieces.left) ≡ held work.statement (shown table.rows)
+  pub whole : AreReadOf work.statement (shown table.rows) pieces
   pub more : HasPiece pieces.left
   pub left : IsLeft table work.statement work.after pieces.left
   pub few : length pieces.left ≤ work.budget + 1

@@ -17,7 +17,8 @@ use Rattle.isp_plain.specs.declared.value.Row.{Row}
 use Rattle.isp_plain.specs.declared.value.Schema.{Schema}
 use Rattle.isp_row.specs.RowSpelling.{IsRowOf}
 use Rattle.isp_work.specs.declared.found.Found.TheVariants.{Rows}
-use Rattle.isp_scan.specs.Readings.{AreFoundFor, IsPutRow, SetsFit}
+use Rattle.isp_work.proofs.ReadLaws.{KeepsKeys, KeepsKeysIn}
+use Rattle.isp_scan.specs.Readings.{AreFoundFor, IsPutRow, SetsFit, SetsFitIn}
 use Rattle.isp_scan.specs.Scanning.{HasFileTable}
 
 -- ---- rows that are shown
@@ -34,9 +35,20 @@ are_keyed g now def t has =
 -- ---- rows that are written
 
 -- the new values keep the keys of rows of the schema
-pub sets_keep : (schema : Schema) (sets : List Assign) (rows : List (ℤ × Row)) → SetsFit schema sets → AllByRecursion (λ (e : ℤ × Row). IsRowOf schema e.0 e.1) rows → AllByRecursion (λ (e : ℤ × Row). key_of (with_sets sets e.1) ≡ e.0) rows
-sets_keep schema sets rows fit all =
-    all_weaker (λ (e : ℤ × Row). IsRowOf schema e.0 e.1) (λ (e : ℤ × Row). key_of (with_sets sets e.1) ≡ e.0) rows (λ e is. file.own_key schema e.0 (with_sets sets e.1) (fit e.0 e.1 is)) all
+sets_keep : (schema : Schema) (sets : List Assign) (rows : List (ℤ × Row)) → SetsFit schema sets → AllByRecursion (λ (e : ℤ × Row). IsRowOf schema e.0 e.1) rows → KeepsKeys schema sets rows
+sets_keep schema sets [] fit all = tt
+sets_keep schema sets (e ∷ rows) fit all = ((λ small. file.own_key schema e.0 (with_sets sets e.1) (fit e.0 e.1 all.0)), sets_keep schema sets rows fit all.1)
+
+pub keeps_keys : (schema : Schema) (s : Statement) (rows : List (ℤ × Row)) → SetsFitIn schema s → AllByRecursion (λ (e : ℤ × Row). IsRowOf schema e.0 e.1) rows → KeepsKeysIn schema s rows
+keeps_keys schema (Create name others) rows fit all = tt
+keeps_keys schema (Insert name new) rows fit all = tt
+keeps_keys schema (Select name columns w) rows fit all = tt
+keeps_keys schema (Update name sets w) rows fit all = sets_keep schema sets rows fit all
+keeps_keys schema (Delete name w) rows fit all = tt
+keeps_keys schema Begin rows fit all = tt
+keeps_keys schema Commit rows fit all = tt
+keeps_keys schema Rollback rows fit all = tt
+keeps_keys schema (Refused refusal) rows fit all = tt
 
 all_both : {X : Type 0} (P : X → Type 0) (xs ys : List X) → AllByRecursion P xs → AllByRecursion P ys → AllByRecursion P (xs ++ ys)
 all_both P [] ys first second = second

@@ -1,7 +1,7 @@
 -- A statement that reads its table piece by piece, and one that begins, as stages.
-use Rattle.std.proofs.Common.{◌≡◌, ℕ, zero, suc, ◌+◌, ◌-◌, ◌<◌, ℤ, Bool, true, false, ◌&&◌, ◌||◌, cond, List, [], ◌∷◌, ◌++◌, drop, length, map, slice_get, is_some, Option, Some, None, refl, sym, ◌∙◌, ap, subst, arith, append_assoc, if◌then◌else◌}
+use Rattle.std.proofs.Common.{◌≡◌, ℕ, ◌-◌, ℤ, Bool, true, false, ◌&&◌, ◌||◌, cond, List, [], ◌∷◌, ◌++◌, drop, length, map, slice_get, Option, Some, None, refl, sym, ◌∙◌, ap, subst, arith, append_assoc, if◌then◌else◌}
 use Rattle.std.specs.Prelude.{filter, nat_lt}
-use Rattle.std.specs.List.{AllByRecursion, list_any, position}
+use Rattle.std.specs.List.{AllByRecursion, list_any}
 use Rattle.std.specs.Map.{values_of}
 use Rattle.std.specs.Str.{bytes_eq}
 use Rattle.std.proofs.lemmas.Bool.Decides.{nat_tests}
@@ -11,8 +11,6 @@ use Rattle.isp_base.specs.declared.page_no.PageNo.{PageNo}
 use Rattle.isp_plain.specs.declared.refusal.Refusal.{Refusal}
 use Rattle.isp_plain.specs.declared.refusal.Refusal.TheVariants.{RowTooLarge}
 use Rattle.isp_plain.specs.declared.statement.Assign.{Assign}
-use Rattle.isp_plain.specs.declared.statement.Condition.{Condition}
-use Rattle.isp_plain.specs.declared.statement.Reply.{Reply}
 use Rattle.isp_plain.specs.declared.statement.Reply.TheVariants as reply
 use Rattle.isp_plain.specs.declared.statement.Statement.{Statement}
 use Rattle.isp_plain.specs.declared.statement.Statement.TheVariants.{Create, Insert, Select, Update, Delete, Begin, Commit, Rollback, Refused}
@@ -23,15 +21,15 @@ use Rattle.isp_plain.specs.Does.{cut, no_such_table, place_of, with_sets}
 use Rattle.isp_plain.specs.Tables.{Table}
 use Rattle.isp_plain.specs.Values.{key_of}
 use Rattle.isp_changes.specs.Rows.{AreKeyed}
-use Rattle.isp_changes.specs.Changes.{OfFound, OfPlace, RowChange, changes_by, changes_in, held, is_held, joined, of_found, of_place, replacing}
-use Rattle.isp_changes.specs.Stages.{HasHeld, Phase, ReadsAll, Stage, after_step, begun, changes_left, failed, is_insert, outgrows_by, pieces_left, reading, ready, some_outgrow, stage_at, step_of, with_read}
+use Rattle.isp_changes.specs.Changes.{OfPlace, RowChange, changes_in, held, is_held, joined, of_found, of_place, replacing}
+use Rattle.isp_changes.specs.Stages.{HasHeld, ReadsAll, after_step, begun, changes_left, failed, is_insert, pieces_left, reading, ready, some_outgrow, stage_at, step_of, with_read}
 use Rattle.isp_work.specs.Finding.{found_in, held_by, is_too_large, reads}
-use Rattle.isp_work.specs.Starting.{began, place_for, start_at, start_of}
-use Rattle.isp_work.specs.Works.{AreReadAs, AreReadOf, Pieces, all_left, answered, behind_first, behind_piece, change_by, changes_ahead, failed_by, first_of, is_delete, is_select, phase_at, read_by, read_out, reading_at, rows_named, schema_in, stage_of, started, took, went_on}
+use Rattle.isp_work.specs.Starting.{place_for, start_at, start_of}
+use Rattle.isp_work.specs.Works.{AreReadAs, AreReadOf, Pieces, all_left, answered, behind_first, behind_piece, change_by, failed_by, first_of, is_delete, is_select, phase_at, read_out, rows_named, schema_in, stage_of, started, took, went_on}
 use Rattle.isp_work.specs.declared.found.Found.{Found}
 use Rattle.isp_work.specs.declared.found.Found.TheVariants as found
 use Rattle.isp_work.specs.declared.phase.Phase.{Phase as WorkPhase}
-use Rattle.isp_work.specs.declared.phase.Phase.TheVariants.{Creating, Reading, Looking, Changing, Undoing, Ready}
+use Rattle.isp_work.specs.declared.phase.Phase.TheVariants.{Reading, Undoing}
 use Rattle.isp_work.specs.declared.progress.Progress.{Progress}
 use Rattle.isp_work.proofs.StageLaws.{behind, failed_same, failed_stage, has_noted, step_at, went_phase, went_same}
 
@@ -115,25 +113,28 @@ or_later false b is = is
 same_keys : (schema : Schema) (sets : List Assign) (rows : List (ℤ × Row)) → KeepsKeys schema sets rows → list_any (is_too_large schema sets) (values_of rows) ≡ false
     → AllByRecursion (λ (e : ℤ × Row). key_of (with_sets sets e.1) ≡ e.0) rows
 same_keys schema sets [] keeps small = tt
-same_keys schema sets (e ∷ rows) keeps small =
-    (keeps.0 (or_first (is_too_large schema sets e.1) (list_any (is_too_large schema sets) (values_of rows)) small),
-    same_keys schema sets rows keeps.1 (or_later (is_too_large schema sets e.1) (list_any (is_too_large schema sets) (values_of rows)) small))
+same_keys schema sets (e ∷ rows) keeps small = (
+  keeps.0 (or_first (is_too_large schema sets e.1) (list_any (is_too_large schema sets) (values_of rows)) small),
+  same_keys schema sets rows keeps.1 (or_later (is_too_large schema sets e.1) (list_any (is_too_large schema sets) (values_of rows)) small),
+)
 
 -- where no row of a piece gets too large, what is kept of it comes behind what is kept of those before
 pub kept_more : (schema : Schema) (s : Statement) (read piece : List (ℤ × Row)) (rows : List Row) → some_outgrow schema s piece ≡ false → AreKeyed piece → KeepsKeysIn schema s piece → AreReadAs s read rows
     → AreReadAs s (read ++ held s piece) (rows ++ kept_of s (held s piece))
 kept_more schema (Select name columns w) read piece rows small keyed keeps kept =
     ap (λ (vs : List Row). vs ++ map (cut columns) (held_by w piece)) kept ∙ mapped_more (cut columns) read (held (Select name columns w) piece)
-kept_more schema (Update name sets w) read piece rows small keyed keeps kept =
-    (ap (λ (vs : List Row). vs ++ map (with_sets sets) (held_by w piece)) kept.0 ∙ mapped_more (with_sets sets) read (held (Update name sets w) piece),
-    all_more (λ (e : ℤ × Row). key_of (with_sets sets e.1) ≡ e.0) read (held (Update name sets w) piece) kept.1
-    (same_keys schema sets (held (Update name sets w) piece)
-    (all_kept (λ (e : ℤ × Row). is_too_large schema sets e.1 ≡ false → key_of (with_sets sets e.1) ≡ e.0) (λ (e : ℤ × Row). is_held (Update name sets w) e.1) piece keeps)
-    (sym (any_held (holds w) (is_too_large schema sets) piece) ∙ small)))
-kept_more schema (Delete name w) read piece rows small keyed keeps kept =
-    (ap (λ (vs : List Row). vs ++ held_by w piece) kept.0 ∙ values_more read (held (Delete name w) piece),
-    all_more (λ (e : ℤ × Row). key_of e.1 ≡ e.0) read (held (Delete name w) piece) kept.1
-    (all_kept (λ (e : ℤ × Row). key_of e.1 ≡ e.0) (λ (e : ℤ × Row). is_held (Delete name w) e.1) piece keyed))
+kept_more schema (Update name sets w) read piece rows small keyed keeps kept = (
+  ap (λ (vs : List Row). vs ++ map (with_sets sets) (held_by w piece)) kept.0 ∙ mapped_more (with_sets sets) read (held (Update name sets w) piece),
+  all_more (λ (e : ℤ × Row). key_of (with_sets sets e.1) ≡ e.0) read (held (Update name sets w) piece) kept.1
+      (same_keys schema sets (held (Update name sets w) piece)
+      (all_kept (λ (e : ℤ × Row). is_too_large schema sets e.1 ≡ false → key_of (with_sets sets e.1) ≡ e.0) (λ (e : ℤ × Row). is_held (Update name sets w) e.1) piece keeps)
+      (sym (any_held (holds w) (is_too_large schema sets) piece) ∙ small)),
+)
+kept_more schema (Delete name w) read piece rows small keyed keeps kept = (
+  ap (λ (vs : List Row). vs ++ held_by w piece) kept.0 ∙ values_more read (held (Delete name w) piece),
+  all_more (λ (e : ℤ × Row). key_of e.1 ≡ e.0) read (held (Delete name w) piece) kept.1
+      (all_kept (λ (e : ℤ × Row). key_of e.1 ≡ e.0) (λ (e : ℤ × Row). is_held (Delete name w) e.1) piece keyed),
+)
 kept_more schema (Create name others) read piece rows small keyed keeps kept = tt
 kept_more schema (Insert name new) read piece rows small keyed keeps kept = tt
 kept_more schema Begin read piece rows small keyed keeps kept = tt

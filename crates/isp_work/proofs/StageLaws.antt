@@ -1,36 +1,24 @@
 -- A statement in memory goes on as its stage does: each of its turns is one step of the stage.
-use Rattle.std.proofs.Common.{◌≡◌, ℕ, zero, suc, ◌+◌, ◌<◌, ◌≤◌, ℤ, Bool, true, false, cond, List, [], ◌∷◌, ◌++◌, drop, length, map, slice_get, is_some, Option, Some, None, refl, sym, ◌∙◌, ap, subst, arith, if◌then◌else◌}
-use Rattle.std.specs.Prelude.{filter, nat_lt}
-use Rattle.std.specs.List.{AllByRecursion, list_any}
-use Rattle.std.specs.Map.{values_of}
+use Rattle.std.proofs.Common.{◌≡◌, ℕ, zero, suc, ◌+◌, ◌<◌, ◌≤◌, ℤ, Bool, true, false, List, [], ◌∷◌, drop, length, map, slice_get, is_some, Option, Some, None, refl, sym, ◌∙◌, ap, arith, if◌then◌else◌}
+use Rattle.std.specs.Prelude.{nat_lt}
 use Rattle.std.specs.Option.{option_and_then}
 use Rattle.std.proofs.lemmas.Bool.Decides.{nat_tests}
 use Rattle.isp_plain.specs.declared.refusal.Refusal.{Refusal}
-use Rattle.isp_plain.specs.declared.refusal.Refusal.TheVariants.{DuplicateKey, FileFull, RowTooLarge}
-use Rattle.isp_plain.specs.declared.statement.Assign.{Assign}
-use Rattle.isp_plain.specs.declared.statement.Condition.{Condition}
-use Rattle.isp_plain.specs.declared.statement.Reply.{Reply}
+use Rattle.isp_plain.specs.declared.refusal.Refusal.TheVariants.{DuplicateKey, FileFull}
 use Rattle.isp_plain.specs.declared.statement.Reply.TheVariants as reply
 use Rattle.isp_plain.specs.declared.statement.Statement.{Statement}
-use Rattle.isp_plain.specs.declared.statement.Statement.TheVariants.{Create, Insert, Select, Update, Delete, Begin, Commit, Rollback, Refused}
+use Rattle.isp_plain.specs.declared.statement.Statement.TheVariants.{Create}
 use Rattle.isp_plain.specs.declared.value.Row.{Row}
 use Rattle.isp_plain.specs.declared.value.Schema.{Schema}
-use Rattle.isp_plain.specs.Conditions.{holds}
-use Rattle.isp_plain.specs.Does.{cut, no_such_table, place_of, with_sets}
-use Rattle.isp_plain.specs.RowBytes.{row_bytes, row_limit}
 use Rattle.isp_plain.specs.Tables.{Table}
 use Rattle.isp_plain.specs.Values.{key_of}
-use Rattle.isp_changes.specs.Rows.{AreKeyed, row_at}
-use Rattle.isp_changes.specs.Changes.{RowChange, after_change, changes_by, held, image_of, is_held, replacing, row_in}
-use Rattle.isp_changes.specs.Stages.{Phase, Stage, after_step, begun, changes_left, changing, creating, failed, first_phase, is_insert, is_taken, looking, outgrows_by, pieces_left, reading, ready, some_outgrow, stage_at, step_of, undoing, with_empty, with_read}
-use Rattle.isp_work.specs.Works.{Pieces, answered, change_by, changed_by, changes_ahead, creating_by, failed_by, first_of, is_delete, look_by, look_of, looked_by, made_by, next_row, passed, phase_at, reading_at, rows_left, rows_named, schema_in, stage_of, started, took, went_on}
-use Rattle.isp_work.specs.declared.found.Changed.TheVariants as changed
-use Rattle.isp_work.specs.declared.found.Found.{Found}
-use Rattle.isp_work.specs.declared.found.Found.TheVariants as found
-use Rattle.isp_work.specs.declared.found.Looked.{Looked}
+use Rattle.isp_changes.specs.Rows.{row_at}
+use Rattle.isp_changes.specs.Changes.{RowChange, after_change, image_of, row_in}
+use Rattle.isp_changes.specs.Stages.{after_step, changes_left, changing, failed, is_insert, looking, stage_at, step_of, with_empty}
+use Rattle.isp_work.specs.Works.{Pieces, answered, change_by, changes_ahead, creating_by, failed_by, first_of, is_delete, look_by, looked_by, made_by, next_row, passed, phase_at, rows_named, stage_of, went_on}
 use Rattle.isp_work.specs.declared.found.Looked.TheVariants as looked
 use Rattle.isp_work.specs.declared.phase.Phase.{Phase as WorkPhase}
-use Rattle.isp_work.specs.declared.phase.Phase.TheVariants.{Creating, Reading, Looking, Changing, Undoing, Ready}
+use Rattle.isp_work.specs.declared.phase.Phase.TheVariants.{Creating, Looking, Changing, Undoing}
 use Rattle.isp_work.specs.declared.progress.Progress.{Progress}
 
 -- ---- the rest of a list

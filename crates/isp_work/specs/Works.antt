@@ -205,3 +205,13 @@ look_by (Some row) rows = look_of row rows
 -- the rows that it keeps are as many as memory can hold
 abbrev pub IsSmall : Progress → Type 0
 IsSmall work = length (rows_named work.statement work.rows) < 2 ^ 64
+
+-- where no leaf is left
+abbrev pub IsSmallOut : Option PageNo → Progress → Type 0
+IsSmallOut None work = IsSmall work
+IsSmallOut (Some page) work = Unit {0}
+
+-- with what was found, where that is all
+abbrev pub TakesSmall : Progress → Found → Option PageNo → Type 0
+TakesSmall work (found.Rows rows) next = IsSmallOut next (record work { rows = work.rows ++ rows })
+TakesSmall work found.TooLarge next = Unit {0}
