@@ -31,7 +31,7 @@ use Rattle.isp_row.specs.RowSpelling.{IsRowOf}
 use Rattle.isp_scan.specs.Leaves.{HasPiece, IsLeafFound, IsNext as IsNextPiece, Piece}
 use Rattle.isp_scan.specs.Readings.{SetsFitIn}
 use Rattle.isp_scan.specs.declared.leaves.LeafFound.{LeafFound}
-use Rattle.isp_scan.proofs.RowLaws.{are_rows}
+use Rattle.isp_scan.proofs.RowLaws.{are_rows, keeps_keys}
 use Rattle.isp_tables.specs.Opened.{IsAtPlace, IsOpen, defs_in}
 use Rattle.isp_tables.proofs.TableLaws.{at_place, file_table, plain_at}
 use Rattle.isp_trx.specs.Transactions.{TrxState}
@@ -46,7 +46,7 @@ use Rattle.isp_work.proofs.ReadLaws.{KeepsKeysIn, kept_on, read_of_on, took_same
 use Rattle.isp_exec.specs.Events.{IsNext, answer_by, answer_of, event_by, refusal_in}
 use Rattle.isp_exec.specs.Standing.{AreDeletable, AreWritable, AreWritableNow, HasRead, IsAt, IsFoundBehind, IsLeft, Leads, stage_in, writes}
 use Rattle.isp_exec.proofs.AtLaws.{failed_behind, failed_writable, is_behind, no_way, not_behind, some_noted, went_behind, went_writable}
-use Rattle.isp_exec.proofs.PieceLaws.{GoesWith, behind_is, behind_read, is_large, keeps_keys, of_first, outgrows_is, own_keys, took_stage}
+use Rattle.isp_exec.proofs.PieceLaws.{GoesWith, behind_is, behind_read, is_large, of_first, outgrows_is, own_keys, took_stage}
 use Rattle.isp_exec.proofs.RowLaws.{all_by, all_held, all_mapped, and_first, and_rest, read_deletable}
 
 -- ---- no line feed
