@@ -51,7 +51,7 @@ found_each schema key (r ∷ rows) each = by (int_lt r.stored.key key) (int_eq r
     by false true rest = (each.0, tt)
     by false false rest = tt
 
-pub found_there : (key : ℤ) (rows : List FileRow) (r : FileRow) → found row_key key rows ≡ Some r → r.stored.key ≡ key
+found_there : (key : ℤ) (rows : List FileRow) (r : FileRow) → found row_key key rows ≡ Some r → r.stored.key ≡ key
 found_there key [] r is = absurd (let no : None ≡ Some r = is in cc)
 found_there key (x ∷ rows) r is = by (int_lt x.stored.key key) (int_eq x.stored.key key) refl is (λ later. found_there key rows r later)
   where

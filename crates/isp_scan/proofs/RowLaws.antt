@@ -1,5 +1,5 @@
 -- The rows of a table that are shown are rows of its schema with their own keys, which new values leave.
-use Rattle.std.proofs.Common.{◌≡◌, ℤ, List, [], ◌∷◌, ◌++◌, sym, subst}
+use Rattle.std.proofs.Common.{◌≡◌, ℤ, List, [], ◌∷◌, ◌++◌, subst}
 use Rattle.std.specs.List.{AllByRecursion}
 use Rattle.isp_catalog.specs.declared.table.TableDef.{TableDef}
 use Rattle.isp_changes.specs.Rows.{AreKeyed}

@@ -1,4 +1,4 @@
-use Rattle.std.proofs.Common.{rules, List, [], sym, ◌∙◌, ap, subst, w64}
+use Rattle.std.proofs.Common.{List, [], sym, ◌∙◌, ap, subst, w64}
 use Rattle.std.specs.Prelude.{ℤ}
 use Rattle.std.proofs.lemmas.Int.{to_z-of_z}
 use Rattle.isp_clustered.specs.declared.kept.KeptRow.{KeptRow}
