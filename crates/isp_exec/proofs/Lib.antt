@@ -4,6 +4,7 @@ pub mod AnswerLaws
 pub mod AtLaws
 pub mod FitLaws
 pub mod HeightLaws
+pub mod LeafLaws
 pub mod PieceLaws
 pub mod ReadAtLaws
 pub mod ReadFitLaws

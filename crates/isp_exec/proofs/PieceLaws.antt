@@ -14,19 +14,16 @@ use Rattle.isp_file_laws.proofs.EachLaws.{all_weaker}
 use Rattle.isp_file_laws.proofs.KeptLaws.{own_key}
 use Rattle.isp_image.specs.Databases.{FileTable, shown}
 use Rattle.isp_page.specs.declared.pages.Pages.{Ghosts}
-use Rattle.isp_plain.specs.Does.{with_sets}
 use Rattle.isp_plain.specs.Tables.{Table}
 use Rattle.isp_plain.specs.Values.{key_of}
 use Rattle.isp_plain.specs.declared.statement.Statement.{Statement}
-use Rattle.isp_plain.specs.declared.statement.Statement.TheVariants.{Create, Insert, Select, Update, Delete, Begin, Commit, Rollback, Refused}
 use Rattle.isp_plain.specs.declared.value.Row.{Row}
 use Rattle.isp_plain.specs.declared.value.Schema.{Schema}
 use Rattle.isp_row.specs.RowSpelling.{IsRowOf}
 use Rattle.isp_scan.specs.Leaves.{HasPiece, Piece}
-use Rattle.isp_scan.specs.Readings.{SetsFitIn}
 use Rattle.isp_scan.specs.Scanning.{HasFileTable}
 use Rattle.isp_scan.proofs.LeafLaws.{of_piece}
-use Rattle.isp_work.specs.Finding.{found_in, is_too_large, reads}
+use Rattle.isp_work.specs.Finding.{found_in, reads}
 use Rattle.isp_work.specs.Works.{AreReadAs, Pieces, behind_first, behind_piece, stage_of, took}
 use Rattle.isp_work.specs.declared.found.Found.{Found}
 use Rattle.isp_work.specs.declared.found.Found.TheVariants as found
@@ -60,22 +57,9 @@ module _ {S : Type 0} (g : Ghosts S) (now : S) (def : TableDef) (t : FileTable) 
   of_first None is = of_pieces _ is
   of_first (Some page) is = of_piece g now def t (Some page.0) piece left P has is all
 
--- each has its own key, and the new values leave it
+-- each has its own key
 pub own_keys : (schema : Schema) (rows : List (ℤ × Row)) → AllByRecursion (λ (e : ℤ × Row). IsRowOf schema e.0 e.1) rows → AreKeyed rows
 own_keys schema rows all = all_weaker (λ (e : ℤ × Row). IsRowOf schema e.0 e.1) (λ (e : ℤ × Row). key_of e.1 ≡ e.0) rows (λ e is. own_key schema e.0 e.1 is) all
-
-pub keeps_keys : (schema : Schema) (s : Statement) (rows : List (ℤ × Row)) → SetsFitIn schema s → AllByRecursion (λ (e : ℤ × Row). IsRowOf schema e.0 e.1) rows → KeepsKeysIn schema s rows
-keeps_keys schema (Create name others) rows fit all = tt
-keeps_keys schema (Insert name new) rows fit all = tt
-keeps_keys schema (Select name columns w) rows fit all = tt
-keeps_keys schema (Update name sets w) rows fit all =
-    all_weaker (λ (e : ℤ × Row). IsRowOf schema e.0 e.1) (λ (e : ℤ × Row). is_too_large schema sets e.1 ≡ false → key_of (with_sets sets e.1) ≡ e.0) rows
-    (λ e is small. own_key schema e.0 (with_sets sets e.1) (fit e.0 e.1 is)) all
-keeps_keys schema (Delete name w) rows fit all = tt
-keeps_keys schema Begin rows fit all = tt
-keeps_keys schema Commit rows fit all = tt
-keeps_keys schema Rollback rows fit all = tt
-keeps_keys schema (Refused refusal) rows fit all = tt
 
 -- ---- a row that would get too large
 

@@ -31,7 +31,7 @@ use Rattle.isp_row.specs.RowSpelling.{IsRowOf}
 use Rattle.isp_scan.specs.Leaves.{HasPiece, IsLeafFound, IsNext as IsNextPiece, Piece}
 use Rattle.isp_scan.specs.Readings.{SetsFitIn}
 use Rattle.isp_scan.specs.declared.leaves.LeafFound.{LeafFound}
-use Rattle.isp_scan.proofs.RowLaws.{are_rows}
+use Rattle.isp_scan.proofs.RowLaws.{are_rows, keeps_keys}
 use Rattle.isp_tables.specs.Opened.{IsAtPlace, IsOpen, defs_in}
 use Rattle.isp_tables.proofs.TableLaws.{at_place, file_table, plain_at}
 use Rattle.isp_trx.specs.Transactions.{TrxState}
@@ -40,14 +40,13 @@ use Rattle.isp_work.specs.Finding.{found_in, reads}
 use Rattle.isp_work.specs.Works.{AreReadAs, AreReadOf, Pieces, answered, failed_by, first_of, is_delete, is_select, phase_at, read_out, rows_left, rows_named, schema_in, stage_of, took, went_on}
 use Rattle.isp_work.specs.declared.found.Found.{Found}
 use Rattle.isp_work.specs.declared.found.Found.TheVariants as found
-use Rattle.isp_work.specs.declared.phase.Phase.{Phase as WorkPhase}
-use Rattle.isp_work.specs.declared.phase.Phase.TheVariants.{Creating, Reading, Looking, Changing, Undoing, RollingBack, Ready}
+use Rattle.isp_work.specs.declared.phase.Phase.TheVariants.{Reading, RollingBack}
 use Rattle.isp_work.specs.declared.progress.Progress.{Progress}
 use Rattle.isp_work.proofs.ReadLaws.{KeepsKeysIn, kept_on, read_of_on, took_same}
 use Rattle.isp_exec.specs.Events.{IsNext, answer_by, answer_of, event_by, refusal_in}
 use Rattle.isp_exec.specs.Standing.{AreDeletable, AreWritable, AreWritableNow, HasRead, IsAt, IsFoundBehind, IsLeft, Leads, stage_in, writes}
-use Rattle.isp_exec.proofs.AtLaws.{failed_writable, no_way, some_noted, went_writable}
-use Rattle.isp_exec.proofs.PieceLaws.{GoesWith, behind_is, behind_read, is_large, keeps_keys, of_first, outgrows_is, own_keys, took_stage}
+use Rattle.isp_exec.proofs.AtLaws.{failed_behind, failed_writable, is_behind, no_way, not_behind, some_noted, went_behind, went_writable}
+use Rattle.isp_exec.proofs.PieceLaws.{GoesWith, behind_is, behind_read, is_large, of_first, outgrows_is, own_keys, took_stage}
 use Rattle.isp_exec.proofs.RowLaws.{all_by, all_held, all_mapped, and_first, and_rest, read_deletable}
 
 -- ---- no line feed
@@ -82,31 +81,6 @@ lined_at (t ∷ tables) (suc place) table all is = lined_at tables place table (
 
 -- ---- behind a piece
 
--- the table is read, or the statement fails
-abbrev pub is_behind : WorkPhase → Bool
-is_behind Creating = false
-is_behind Reading = false
-is_behind RollingBack = false
-is_behind _ = true
-
-went_behind : (work : Progress) → is_behind (went_on work).phase ≡ true
-went_behind work = by (nat_lt work.next (length (rows_named work.statement work.rows)))
-  where
-    first : (inserts : Bool) → is_behind (first_of inserts) ≡ true
-    first true = refl
-    first false = refl
-
-    by : (b : Bool) → is_behind (if b then record work { phase = first_of (is_insert work.statement) } else answered work (reply.Count work.next)).phase ≡ true
-    by true = first (is_insert work.statement)
-    by false = refl
-
-failed_behind : (work : Progress) (refusal : Refusal) (count : ℕ) → is_behind (failed_by work refusal count).phase ≡ true
-failed_behind work refusal count = by (nat_lt work.base count)
-  where
-    by : (b : Bool) → is_behind (if b then record work { phase = Undoing refusal } else answered work (reply.Err refusal)).phase ≡ true
-    by true = refl
-    by false = refl
-
 out_behind : (work : Progress) → is_behind (read_out work).phase ≡ true
 out_behind work = by (is_select work.statement)
   where
@@ -114,8 +88,8 @@ out_behind work = by (is_select work.statement)
     by true = refl
     by false = went_behind work
 
-not_behind : (work : Progress) (p : WorkPhase) → is_behind work.phase ≡ true → is_behind p ≡ false → work.phase ≡ p → ⊥
-not_behind work p is not phase = let bad : true ≡ false = sym is ∙ ap is_behind phase ∙ not in cc
+pub took_statement : (work : Progress) (f : Found) (next : Option PageNo) (count : ℕ) → (took work f next count).statement ≡ work.statement
+took_statement work f next count = (took_same work f next count).statement
 
 took_other : (work : Progress) (f : Found) (next : Option PageNo) (count : ℕ) → work.phase ≡ Reading → (took work f next count).phase ≡ RollingBack → ⊥
 took_other work (found.Rows rows) (Some page) count phase is = let bad : Reading ≡ RollingBack = sym phase ∙ is in cc

@@ -38,10 +38,9 @@ use Rattle.isp_work.proofs.StageLaws.{went_same}
 use Rattle.isp_exec.specs.Events.{Begins}
 use Rattle.isp_exec.specs.Standing.{AreWritableNow, HasRead, IsAt, IsLeft, Leads, pieces_by, pieces_of}
 use Rattle.isp_exec.specs.Starting.{place_by}
-use Rattle.isp_exec.proofs.AtLaws.{no_way, went_writable}
+use Rattle.isp_exec.proofs.AtLaws.{no_way, not_behind, went_behind, went_writable}
 use Rattle.isp_exec.proofs.FitLaws.{def_there}
 use Rattle.isp_exec.proofs.PlaceLaws.{place_by_is}
-use Rattle.isp_exec.proofs.ReadAtLaws.{not_behind, went_behind}
 use Rattle.isp_exec.proofs.RowLaws.{all_by}
 
 -- ---- it is the statement
