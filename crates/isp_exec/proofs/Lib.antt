@@ -5,7 +5,6 @@ pub mod AtLaws
 pub mod FitLaws
 pub mod HeightLaws
 pub mod LeafLaws
-pub mod LeafLaws
 pub mod PieceLaws
 pub mod ReadAtLaws
 pub mod ReadFitLaws
