@@ -131,19 +131,19 @@ module _ (d : Database) (work : Progress) (pieces : Pieces) (r : HasRead d work 
 module _ (place : ℕ) (d : Database) (table : Table) (there : slice_get (tables_of d) place ≡ Some table) (rises : AreRising table.rows) (own : AreKeyed table.rows)
     (lines : AllByRecursion (λ (row : Row). is_lined_row row ≡ true) (values_of table.rows)) where
   all_writable : (s : Statement) (rows : List Row) → reads s ≡ true → is_select s ≡ false → is_lined_statement s ≡ true → AreReadAs s (held s table.rows) rows → AreWritable (is_delete s) place (rows_named s rows) d
-  all_writable (Create name schema) rows is not lined as = cc
-  all_writable (Insert name others) rows is not lined as = cc
-  all_writable (Select name columns w) rows is not lined as = cc
+  all_writable (Create name schema) rows is not lined kept = cc
+  all_writable (Insert name others) rows is not lined kept = cc
+  all_writable (Select name columns w) rows is not lined kept = cc
   all_writable (Update name sets w) rows is not lined as =
-      subst (AllByRecursion (λ (row : Row). is_lined_row row ≡ true)) (sym as.0)
+      subst (AllByRecursion (λ (row : Row). is_lined_row row ≡ true)) (sym kept.0)
       (all_mapped (λ (row : Row). is_lined_row row ≡ true) (λ (row : Row). is_lined_row row ≡ true) (with_sets sets) (values_of (held (Update name sets w) table.rows)) (λ row line. lined_fold sets row.values lined line)
       (all_held (λ (row : Row). is_lined_row row ≡ true) (λ (e : ℤ × Row). holds w e.1) table.rows lines))
   all_writable (Delete name w) rows is not lined as =
-      subst (λ (l : List Row). AreDeletable place l d) (sym as.0) (read_deletable place d table (λ (e : ℤ × Row). holds w e.1) there rises own)
-  all_writable Begin rows is not lined as = cc
-  all_writable Commit rows is not lined as = cc
-  all_writable Rollback rows is not lined as = cc
-  all_writable (Refused refusal) rows is not lined as = cc
+      subst (λ (l : List Row). AreDeletable place l d) (sym kept.0) (read_deletable place d table (λ (e : ℤ × Row). holds w e.1) there rises own)
+  all_writable Begin rows is not lined kept = cc
+  all_writable Commit rows is not lined kept = cc
+  all_writable Rollback rows is not lined kept = cc
+  all_writable (Refused refusal) rows is not lined kept = cc
 
 out_writable : (work : Progress) (d : Database) → (is_select work.statement ≡ false → AreWritable (is_delete work.statement) work.place (rows_left work) d) → AreWritableNow (read_out work) d
 out_writable work d writable = by (is_select work.statement) refl
