@@ -134,11 +134,11 @@ module _ (place : ℕ) (d : Database) (table : Table) (there : slice_get (tables
   all_writable (Create name schema) rows is not lined kept = cc
   all_writable (Insert name others) rows is not lined kept = cc
   all_writable (Select name columns w) rows is not lined kept = cc
-  all_writable (Update name sets w) rows is not lined as =
+  all_writable (Update name sets w) rows is not lined kept =
       subst (AllByRecursion (λ (row : Row). is_lined_row row ≡ true)) (sym kept.0)
       (all_mapped (λ (row : Row). is_lined_row row ≡ true) (λ (row : Row). is_lined_row row ≡ true) (with_sets sets) (values_of (held (Update name sets w) table.rows)) (λ row line. lined_fold sets row.values lined line)
       (all_held (λ (row : Row). is_lined_row row ≡ true) (λ (e : ℤ × Row). holds w e.1) table.rows lines))
-  all_writable (Delete name w) rows is not lined as =
+  all_writable (Delete name w) rows is not lined kept =
       subst (λ (l : List Row). AreDeletable place l d) (sym kept.0) (read_deletable place d table (λ (e : ℤ × Row). holds w e.1) there rises own)
   all_writable Begin rows is not lined kept = cc
   all_writable Commit rows is not lined kept = cc
