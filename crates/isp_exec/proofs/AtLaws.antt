@@ -345,33 +345,41 @@ module _ {S : Type 0} (g : Ghosts S) (old new : S) (defs : List TableDef) (trx t
       (undone_answers (tables_of at.db) at.noted at.pieces work refusal phase)
       same.statement same.base (failed_behind work refusal count) (failed_writable work refusal count at.db)
 
-  -- the image that was put back is the newest
-  undone_by : (since : List FileImage) (count : ℕ) → at.noted ≡ map back_of since → at.db.images ≡ since ++ start.images → nat_lt (length start.images) (length (since ++ start.images)) ≡ true → (did : DidUndo g new defs trx_now at.db) → count ≡ trx_now.count
-      → Comes g at new defs trx_now (failed_by work refusal count) Event
-  undone_by [] count noted images some did counts =
-      let none : nat_lt (length start.images) (length start.images) ≡ false = grind (arith, nat_tests) in
-      let bad : true ≡ false = sym some ∙ none in cc
-  undone_by (image ∷ since) count noted images some did counts =
+  -- the image that was put back is the newest, and those behind it are still noted
+  put_back : (image : FileImage) (since : List FileImage) → at.noted ≡ back_of image ∷ map back_of since → (did : DidUndo g new defs trx_now at.db) → image ≡ did.image → since ++ start.images ≡ did.after.images
+      → Comes g at new defs trx_now (failed_by work refusal trx_now.count) Event
+  put_back image since noted did first rest =
+      let count = trx_now.count in
       let same = failed_same work refusal count in
-      let both : image ∷ (since ++ start.images) ≡ did.image ∷ did.after.images = sym images ∙ did.noted in
-      let first : image ≡ did.image = same_first image did.image (since ++ start.images) did.after.images both in
-      let rest : since ++ start.images ≡ did.after.images = same_rest image did.image (since ++ start.images) did.after.images both in
-      let open_count : trx_now.count ≡ length (since ++ start.images) = did.opened.noted ∙ sym (ap (λ (l : List FileImage). length l) rest) in
-      let few : nat_lt work.base count ≡ has_noted (map back_of since) = (λ i. nat_lt (at.base i) ((counts ∙ open_count) i)) ∙ counted since start.images in
+      let open_count : count ≡ length (since ++ start.images) = did.opened.noted ∙ sym (ap (λ (l : List FileImage). length l) rest) in
+      let few : nat_lt work.base count ≡ has_noted (map back_of since) = (λ i. nat_lt (at.base i) (open_count i)) ∙ counted since start.images in
       let tables : tables_of did.after ≡ after_change (tables_of at.db) (back_of image) = did.tables ∙ sym (ap (λ (i : FileImage). after_change (tables_of at.db) (back_of i)) first) in
+      let steps : stage_of (tables_of did.after) (map back_of since) at.pieces (failed_by work refusal count) ≡ after_step work.statement true (stage_of (tables_of at.db) at.noted at.pieces work) =
+      ap (λ (ts : List Table). stage_of ts (map back_of since) at.pieces (failed_by work refusal count)) tables
+      ∙ undone_stage (tables_of at.db) (back_of image) (map back_of since) at.pieces work refusal count true phase few
+      ∙ ap (λ (l : List RowChange). after_step work.statement true (stage_of (tables_of at.db) l at.pieces work)) (sym noted) in
       next_at g old new defs defs trx trx_now start work (failed_by work refusal count) at pages Event true did.after (map back_of since) did.opened did.reaches (unasked (tables_of at.db) at.pieces work (Undoing refusal) phase refl)
       (record { tables = refl; since = since; images = sym rest; noted = refl })
-      (ap (λ (ts : List Table). stage_of ts (map back_of since) at.pieces (failed_by work refusal count)) tables
-      ∙ undone_stage (tables_of at.db) (back_of image) (map back_of since) at.pieces work refusal count true phase few
-      ∙ ap (λ (l : List RowChange). after_step work.statement true (stage_of (tables_of at.db) l at.pieces work)) (sym noted))
+      steps
       (undone_answers (tables_of at.db) at.noted at.pieces work refusal phase)
       same.statement same.base (failed_behind work refusal count)
       (failed_writable work refusal count did.after)
 
+  undone_by : (since : List FileImage) → at.noted ≡ map back_of since → at.db.images ≡ since ++ start.images → nat_lt (length start.images) (length (since ++ start.images)) ≡ true → (did : DidUndo g new defs trx_now at.db)
+      → Comes g at new defs trx_now (failed_by work refusal trx_now.count) Event
+  undone_by [] noted images some did =
+      let none : nat_lt (length start.images) (length start.images) ≡ false = grind (arith, nat_tests) in
+      no_way (sym none ∙ some)
+  undone_by (image ∷ since) noted images some did =
+      let both : image ∷ (since ++ start.images) ≡ did.image ∷ did.after.images = sym images ∙ did.noted in
+      put_back image since noted did
+      (same_first image did.image (since ++ start.images) did.after.images both)
+      (same_rest image did.image (since ++ start.images) did.after.images both)
+
   pub undone_at : nat_lt work.base trx.count ≡ true → (did : DidUndo g new defs trx_now at.db) → Comes g at new defs trx_now (failed_by work refusal trx_now.count) Event
   undone_at some did =
-      undone_by at.stage.since trx_now.count at.stage.noted at.stage.images
-      ((λ i. nat_lt (sym at.base i) (sym (as_many g old defs trx start work at) i)) ∙ some) did refl
+      undone_by at.stage.since at.stage.noted at.stage.images
+      ((λ i. nat_lt (sym at.base i) (sym (as_many g old defs trx start work at) i)) ∙ some) did
 
   pub undo_at : (b : Bool) → nat_lt work.base trx.count ≡ b → trx_now.count ≡ fewer work.base trx.count → UndidOrNot g new defs trx_now b at.db → Comes g at new defs trx_now (failed_by work refusal trx_now.count) Event
   undo_at true some notes did = undone_at some did
