@@ -171,7 +171,7 @@ goes_with t None left is = is
 goes_with t (Some page) left is = is.0
 
 -- the table that it reads is defined so
-same_table : (d : Database) (place : ℕ) (t : FileTable) (def : TableDef) → slice_get d.tables place ≡ Some t → IsAtPlace place def d → t.def ≡ def
+pub same_table : (d : Database) (place : ℕ) (t : FileTable) (def : TableDef) → slice_get d.tables place ≡ Some t → IsAtPlace place def d → t.def ≡ def
 same_table d place t def there at =
     let one : Some t ≡ Some at.table = sym there ∙ at.is_there in
     let same : t ≡ at.table = cc in
@@ -217,6 +217,10 @@ module _ {S : Type 0} (g : Ghosts S) (old new : S) (defs : List TableDef) (trx :
         asked = λ is. let bad : true ≡ false = sym is ∙ asks in cc;
         steps = steps;
       }
+
+refusal_is : (f : Found) → refusal_in f ≡ (if is_large f then Some RowTooLarge else None)
+refusal_is (found.Rows rows) = refl
+refusal_is found.TooLarge = refl
 
 module _ {S : Type 0} (g : Ghosts S) (old new : S) (defs : List TableDef) (trx : TrxState) (start : Database) (work : Progress) (at : IsAt g old defs trx start work) (phase : work.phase ≡ Reading) (def : TableDef)
     (there : slice_get defs work.place ≡ Some def) (leaf : LeafFound) (found : IsFoundBehind def.schema work.statement (at.read phase).table at.pieces.left leaf) where
@@ -273,10 +277,6 @@ module _ {S : Type 0} (g : Ghosts S) (old new : S) (defs : List TableDef) (trx :
       (took_other work f next count phase)
 
   -- what it answers
-  refusal_is : (f : Found) → refusal_in f ≡ (if is_large f then Some RowTooLarge else None)
-  refusal_is (found.Rows rows) = refl
-  refusal_is found.TooLarge = refl
-
   pub read_answers : (room : Bool) → event_by (refusal_in leaf.found) ≡ answer_of work.statement room (stage_in at)
   read_answers room =
       let schema = schema_in (slice_get (tables_of at.db) work.place) in
