@@ -1,4 +1,4 @@
-use Rattle.std.proofs.Common.{sym, ◌∙◌, refl, ap}
+use Rattle.std.proofs.Common.{sym, ap}
 use Rattle.isp_exec.specs.declared.step.Step.TheVariants.{Ready}
 use Rattle.isp_exec.proofs.AtLaws.{ready_at}
 use Rattle.isp_exec.proofs.GoesLaws.{goes_as, rolls_on, was_ready}
@@ -17,6 +17,6 @@ returns-in-Ready-clause-goes g c tells start at =
     let old = c.args.pages.now in
     let defs = c.args.tables.now in
     let trx = c.args.trx.now in
-    let phase = sym (c.in-Ready.ensures ∙ c.phase.ensures) in
+    let phase = sym c.in-Ready.ensures in
     goes_as g.P.Pages old defs trx start work at old defs trx _ _ _ (Ready work.reply) c.answer.ensures.rest (ap Ready c.answer.ensures.result)
     (was_ready g.P.Pages old defs trx start work at old defs trx phase (ready_at g.P.Pages old defs trx start work at phase))

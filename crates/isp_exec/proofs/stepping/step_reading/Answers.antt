@@ -40,7 +40,7 @@ returns-clause-goes g c tells start at =
     let found = c.in_ok-leaf.ensures.found tells fit.def r.table at.pieces.left fit.is_there has r.left in
     let next = read_goes g.P.Pages old new defs trx start work at phase fit.def fit.is_there leaf found pages opened fit.first fit.reads_rows fit.sets in
     goes_as g.P.Pages old defs trx start work at new defs trx _ (took work leaf.found leaf.next trx.count) _ (event_by (refusal_in leaf.found))
-    (c.in_ok-take.ensures.is ∙ ap (took work leaf.found leaf.next) c.undo_count.ensures) (c.event_by.ensures ∙ ap event_by c.refusal_in.ensures)
+    (c.in_ok-take.ensures.is ∙ ap (took work leaf.found leaf.next) c.undo_count.ensures) (c.event_by.ensures ∙ ap event_by c.refusal_in-refusal.ensures)
     (goes_by g.P.Pages old defs trx start work at new defs trx (refusal_in leaf.found) (took work leaf.found leaf.next trx.count)
     (record {
       next = next;
