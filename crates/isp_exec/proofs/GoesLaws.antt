@@ -1,8 +1,9 @@
 -- A step of a statement on a file: what it answers, and where it leaves the statement.
 use Rattle.std.proofs.Common.{◌≡◌, ℕ, Bool, true, false, List, Option, Some, None, refl, sym, ◌∙◌, ap, subst, if◌then◌else◌}
-use Rattle.std.specs.Prelude.{nat_lt}
+use Rattle.std.specs.Prelude.{Result, Ok, Err, IfOk, nat_lt}
 use Rattle.isp_catalog.specs.declared.table.TableDef.{TableDef}
 use Rattle.isp_image.specs.Databases.{Database}
+use Rattle.isp_page.specs.declared.fault.Fault.{Fault}
 use Rattle.isp_page.specs.declared.pages.Pages.{Ghosts}
 use Rattle.isp_plain.specs.Refusals.{number}
 use Rattle.isp_plain.specs.declared.refusal.Refusal.{Refusal}
@@ -14,7 +15,7 @@ use Rattle.isp_work.specs.Works.{answered, failed_by, is_ready, made_by}
 use Rattle.isp_work.specs.declared.phase.Phase.{Phase as WorkPhase}
 use Rattle.isp_work.specs.declared.phase.Phase.TheVariants.{Creating, Reading, Looking, Changing, Undoing, RollingBack, Ready}
 use Rattle.isp_work.specs.declared.progress.Progress.{Progress}
-use Rattle.isp_exec.specs.Events.{Goes, event_by, goes_on}
+use Rattle.isp_exec.specs.Events.{Goes, RollsBack, TakesBack, event_by, goes_on}
 use Rattle.isp_exec.specs.Standing.{IsAt, IsFit, height}
 use Rattle.isp_exec.specs.declared.step.Step.{Step}
 use Rattle.isp_exec.specs.declared.step.Step.TheVariants as answers
@@ -120,3 +121,10 @@ module _ {S : Type 0} (g : Ghosts S) (old : S) (defs : List TableDef) (trx : Trx
     stated = c.stated;
     done = λ answer is. (phase, same_answer work.reply answer is);
   }
+
+-- ---- ROLLBACK
+
+-- the statement stays what it is
+pub rolls_on : {S : Type 0} (g : Ghosts S) (now : S) (defs : List TableDef) (trx : TrxState) (work : Progress) (d : Database) → work.phase ≡ RollingBack → (result : Result Step Fault) → IfOk result (TakesBack g now defs trx d) → IfOk result (RollsBack g now defs trx work d)
+rolls_on g now defs trx work d phase (Ok step) back = (back, phase)
+rolls_on g now defs trx work d phase (Err fault) back = tt

@@ -88,9 +88,6 @@ out_behind work = by (is_select work.statement)
     by true = refl
     by false = went_behind work
 
-pub took_statement : (work : Progress) (f : Found) (next : Option PageNo) (count : ℕ) → (took work f next count).statement ≡ work.statement
-took_statement work f next count = (took_same work f next count).statement
-
 took_other : (work : Progress) (f : Found) (next : Option PageNo) (count : ℕ) → work.phase ≡ Reading → (took work f next count).phase ≡ RollingBack → ⊥
 took_other work (found.Rows rows) (Some page) count phase is = let bad : Reading ≡ RollingBack = sym phase ∙ is in cc
 took_other work (found.Rows rows) None count phase is = not_behind (took work (found.Rows rows) None count) RollingBack (out_behind (record work { rows = work.rows ++ rows })) refl is
@@ -171,7 +168,7 @@ goes_with t None left is = is
 goes_with t (Some page) left is = is.0
 
 -- the table that it reads is defined so
-same_table : (d : Database) (place : ℕ) (t : FileTable) (def : TableDef) → slice_get d.tables place ≡ Some t → IsAtPlace place def d → t.def ≡ def
+pub same_table : (d : Database) (place : ℕ) (t : FileTable) (def : TableDef) → slice_get d.tables place ≡ Some t → IsAtPlace place def d → t.def ≡ def
 same_table d place t def there at =
     let one : Some t ≡ Some at.table = sym there ∙ at.is_there in
     let same : t ≡ at.table = cc in
@@ -217,6 +214,10 @@ module _ {S : Type 0} (g : Ghosts S) (old new : S) (defs : List TableDef) (trx :
         asked = λ is. let bad : true ≡ false = sym is ∙ asks in cc;
         steps = steps;
       }
+
+refusal_is : (f : Found) → refusal_in f ≡ (if is_large f then Some RowTooLarge else None)
+refusal_is (found.Rows rows) = refl
+refusal_is found.TooLarge = refl
 
 module _ {S : Type 0} (g : Ghosts S) (old new : S) (defs : List TableDef) (trx : TrxState) (start : Database) (work : Progress) (at : IsAt g old defs trx start work) (phase : work.phase ≡ Reading) (def : TableDef)
     (there : slice_get defs work.place ≡ Some def) (leaf : LeafFound) (found : IsFoundBehind def.schema work.statement (at.read phase).table at.pieces.left leaf) where
@@ -273,10 +274,6 @@ module _ {S : Type 0} (g : Ghosts S) (old new : S) (defs : List TableDef) (trx :
       (took_other work f next count phase)
 
   -- what it answers
-  refusal_is : (f : Found) → refusal_in f ≡ (if is_large f then Some RowTooLarge else None)
-  refusal_is (found.Rows rows) = refl
-  refusal_is found.TooLarge = refl
-
   pub read_answers : (room : Bool) → event_by (refusal_in leaf.found) ≡ answer_of work.statement room (stage_in at)
   read_answers room =
       let schema = schema_in (slice_get (tables_of at.db) work.place) in

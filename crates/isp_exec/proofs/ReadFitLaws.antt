@@ -15,13 +15,12 @@ use Rattle.isp_scan.proofs.RowLaws.{found_both}
 use Rattle.isp_tables.specs.TableLists.{place_in}
 use Rattle.isp_work.specs.Finding.{reads}
 use Rattle.isp_work.specs.Starting.{start_at, start_of}
-use Rattle.isp_work.specs.Works.{IsSmall, answered, is_delete, is_select, read_out, rows_left, rows_named, started, took, went_on}
+use Rattle.isp_work.specs.Works.{IsSmall, TakesSmall, answered, is_delete, is_select, read_out, rows_left, rows_named, started, took, went_on}
 use Rattle.isp_work.specs.declared.found.Found.{Found}
 use Rattle.isp_work.specs.declared.found.Found.TheVariants as found
 use Rattle.isp_work.specs.declared.phase.Phase.{Phase as WorkPhase}
 use Rattle.isp_work.specs.declared.phase.Phase.TheVariants.{Reading}
 use Rattle.isp_work.specs.declared.progress.Progress.{Progress}
-use Rattle.isp_work.proofs.StageLaws.{went_same}
 use Rattle.isp_exec.specs.Standing.{IsFit, IsFitIn, IsReading, height, height_in, most_rows}
 use Rattle.isp_exec.specs.Starting.{OfNamed, Suits, place_by}
 use Rattle.isp_exec.proofs.FitLaws.{def_there, failed_fit, went_fit}
@@ -29,19 +28,16 @@ use Rattle.isp_exec.proofs.HeightLaws.{dropped_most, failed_height, height_at, w
 
 -- ---- fewer steps are left
 
-out_height : (work : Progress) (noted : ℕ) → IsSmall (read_out work) → height (read_out work) noted ≤ 3 * 2 ^ 64 + (noted - work.base) + 3
-out_height work noted small = by (is_select work.statement) small
+out_height : (work : Progress) (noted : ℕ) → IsSmall work → height (read_out work) noted ≤ 3 * 2 ^ 64 + (noted - work.base) + 3
+out_height work noted small = by (is_select work.statement)
   where
-    by : (b : Bool) → IsSmall (if b then answered (record work { rows = [] }) (reply.Rows work.rows) else went_on work)
-        → height (if b then answered (record work { rows = [] }) (reply.Rows work.rows) else went_on work) noted ≤ 3 * 2 ^ 64 + (noted - work.base) + 3
-    by true few = omega arith
-    by false few =
-        let same = went_same work in
-        let many : length (rows_named (went_on work).statement (went_on work).rows) ≡ length (rows_named work.statement work.rows) = λ i. length (rows_named (same.statement i) (same.rows i)) in
+    by : (b : Bool) → height (if b then answered (record work { rows = [] }) (reply.Rows work.rows) else went_on work) noted ≤ 3 * 2 ^ 64 + (noted - work.base) + 3
+    by true = omega arith
+    by false =
         let most = went_height work noted in
-        let left = dropped_most (rows_named work.statement work.rows) work.next in omega (arith, few, many, most, left)
+        let left = dropped_most (rows_named work.statement work.rows) work.next in omega (arith, small, most, left)
 
-pub took_falls : (work : Progress) (f : Found) (next : Option PageNo) (noted : ℕ) → work.phase ≡ Reading → IfSome next (λ page. 1 ≤ work.budget) → IsSmall (took work f next noted) → height (took work f next noted) noted < height work noted
+pub took_falls : (work : Progress) (f : Found) (next : Option PageNo) (noted : ℕ) → work.phase ≡ Reading → IfSome next (λ page. 1 ≤ work.budget) → TakesSmall work f next → height (took work f next noted) noted < height work noted
 took_falls work (found.Rows rows) (Some page) noted phase some small =
     let now : Progress = record work { rows = work.rows ++ rows; after = Some page; budget = work.budget - 1 } in
     let had = height_at work noted Reading phase in

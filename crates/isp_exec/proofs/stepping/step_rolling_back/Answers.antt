@@ -1,4 +1,4 @@
-use Rattle.std.proofs.Common.{rules, ◌==◌, ℕ, Bool, sym, ◌∙◌, ap, subst}
+use Rattle.std.proofs.Common.{rules, Bool, ◌∙◌, subst}
 use Rattle.isp_writes.specs.Writing.{UndidOrNot}
 use Rattle.isp_exec.proofs.RollLaws.{some_noted_at}
 use Rattle.isp_exec.proofs.stepping.step_rolling_back.Goals as goal
@@ -10,5 +10,5 @@ returns-in_err-undo_newest-clause-back g c tells d opened =
 
 pub returns-clause-rolls : goal.returns-clause-rolls
 returns-clause-rolls g c tells d opened =
-    let some = some_noted_at c.args.trx.now.count (ap (λ (n : ℕ). n == 0) (sym c.undo_count.ensures) ∙ c.if-undo_count-eq0.false) in
+    let some = some_noted_at c.args.trx.now.count (λ is. c.if-undo_count-eq0.false (c.undo_count.ensures ∙ is)) in
     subst (λ (b : Bool). UndidOrNot g.P.Pages c.undo_newest.new.pages c.args.tables.now c.undo_newest.new.trx b d) some (c.in_ok-undo_newest.ensures.undone tells d opened)
