@@ -1,22 +1,21 @@
 -- What is answered of a step, by the phase in which the statement stands.
-use Rattle.std.proofs.Common.{◌≡◌, ℕ, suc, ℤ, Bool, true, false, List, [], ◌∷◌, drop, length, map, slice_get, is_some, Option, Some, None, refl, sym, ◌∙◌, ap, if◌then◌else◌}
+use Rattle.std.proofs.Common.{◌≡◌, ℕ, suc, Bool, true, false, List, [], ◌∷◌, drop, length, map, slice_get, is_some, Option, Some, None, refl, sym, ◌∙◌, ap, if◌then◌else◌}
 use Rattle.std.specs.Prelude.{nat_lt}
 use Rattle.std.specs.Option.{option_and_then}
 use Rattle.isp_changes.specs.Changes.{RowChange, row_in}
 use Rattle.isp_changes.specs.Rows.{row_at}
-use Rattle.isp_changes.specs.Stages.{after_step, asks_room, changing, looking, ready, stage_at, step_of}
+use Rattle.isp_changes.specs.Stages.{after_step, asks_room, changing, looking, stage_at}
 use Rattle.isp_plain.specs.Refusals.{number}
 use Rattle.isp_plain.specs.Tables.{Table}
 use Rattle.isp_plain.specs.Values.{key_of}
 use Rattle.isp_plain.specs.declared.refusal.Refusal.{Refusal}
 use Rattle.isp_plain.specs.declared.refusal.Refusal.TheVariants.{DuplicateKey, FileFull}
-use Rattle.isp_plain.specs.declared.statement.Reply.{Reply}
 use Rattle.isp_plain.specs.declared.statement.Reply.TheVariants as reply
 use Rattle.isp_plain.specs.declared.statement.Statement.{Statement}
 use Rattle.isp_plain.specs.declared.statement.Statement.TheVariants.{Create}
 use Rattle.isp_plain.specs.declared.value.Row.{Row}
 use Rattle.isp_plain.specs.declared.value.Schema.{Schema}
-use Rattle.isp_work.specs.Works.{Pieces, answered, change_by, changes_ahead, creating_by, failed_by, is_delete, is_ready, look_by, made_by, next_row, phase_at, rows_named, stage_of}
+use Rattle.isp_work.specs.Works.{Pieces, answered, change_by, changes_ahead, creating_by, is_delete, is_ready, look_by, made_by, next_row, phase_at, rows_named, stage_of}
 use Rattle.isp_work.specs.declared.found.Looked.TheVariants as looked
 use Rattle.isp_work.specs.declared.phase.Phase.{Phase as WorkPhase}
 use Rattle.isp_work.specs.declared.phase.Phase.TheVariants.{Creating, Looking, Changing, Undoing, Ready}

@@ -91,10 +91,6 @@ leads_by false pages start d after st stage way l reached more asked = leads_ful
 
 -- ---- what was noted
 
-pub length_map : {X Y : Type 0} (f : X → Y) (xs : List X) → length (map f xs) ≡ length xs
-length_map f [] = refl
-length_map f (x ∷ xs) = ap suc (length_map f xs)
-
 counted : (since before : List FileImage) → nat_lt (length before) (length (since ++ before)) ≡ has_noted (map back_of since)
 counted [] before = grind (arith, nat_tests)
 counted (i ∷ since) before =

@@ -1,7 +1,7 @@
 -- What a statement reads and writes fits the columns of its table, from its beginning on and after each step.
-use Rattle.std.proofs.Common.{◌≡◌, ℕ, ◌+◌, Bool, true, false, cond, List, length, slice_get, Option, Some, None, refl, sym, ◌∙◌, ap, subst, if◌then◌else◌}
+use Rattle.std.proofs.Common.{◌≡◌, ℕ, ◌+◌, Bool, true, false, cond, List, length, slice_get, Some, None, refl, sym, ◌∙◌, ap, if◌then◌else◌}
 use Rattle.std.specs.Prelude.{nat_lt}
-use Rattle.std.specs.List.{AllByRecursion, position_or_len}
+use Rattle.std.specs.List.{position_or_len}
 use Rattle.std.specs.Str.{bytes_eq}
 use Rattle.isp_catalog.specs.declared.table.TableDef.{TableDef}
 use Rattle.isp_changes.specs.Stages.{is_insert}
@@ -27,10 +27,6 @@ failed_fit pages defs work refusal noted = by (nat_lt work.base noted)
     by : (b : Bool) → IsFit pages defs (if b then record work { phase = Undoing refusal } else answered work (reply.Err refusal))
     by true = tt
     by false = tt
-
-pub made_fit : (pages : ℕ) (defs : List TableDef) (work : Progress) (made : Bool) (noted : ℕ) → IsFit pages defs (made_by work made noted)
-made_fit pages defs work true noted = tt
-made_fit pages defs work false noted = failed_fit pages defs work FileFull noted
 
 inserts_not : (s : Statement) → is_insert s ≡ true → is_delete s ≡ false
 inserts_not (Create name schema) is = cc

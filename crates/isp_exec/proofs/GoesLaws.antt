@@ -1,5 +1,5 @@
 -- A step of a statement on a file: what it answers, and where it leaves the statement.
-use Rattle.std.proofs.Common.{◌≡◌, ℕ, Bool, true, false, List, Option, Some, None, refl, sym, ◌∙◌, ap, subst, if◌then◌else◌}
+use Rattle.std.proofs.Common.{◌≡◌, ℕ, Bool, true, false, List, Option, Some, None, refl, sym, ◌∙◌, subst, if◌then◌else◌}
 use Rattle.std.specs.Prelude.{Result, Ok, Err, IfOk, nat_lt}
 use Rattle.isp_catalog.specs.declared.table.TableDef.{TableDef}
 use Rattle.isp_image.specs.Databases.{Database}
@@ -11,7 +11,7 @@ use Rattle.isp_plain.specs.declared.refusal.Refusal.TheVariants.{FileFull}
 use Rattle.isp_plain.specs.declared.statement.Reply.{Reply}
 use Rattle.isp_plain.specs.declared.statement.Reply.TheVariants as reply
 use Rattle.isp_trx.specs.Transactions.{TrxState}
-use Rattle.isp_work.specs.Works.{answered, failed_by, is_ready, made_by}
+use Rattle.isp_work.specs.Works.{answered, is_ready, made_by}
 use Rattle.isp_work.specs.declared.phase.Phase.{Phase as WorkPhase}
 use Rattle.isp_work.specs.declared.phase.Phase.TheVariants.{Creating, Reading, Looking, Changing, Undoing, RollingBack, Ready}
 use Rattle.isp_work.specs.declared.progress.Progress.{Progress}

@@ -15,7 +15,7 @@ use Rattle.isp_scan.specs.Leaves.{HasPiece, IsBehind, IsLeafFound, IsNext, Piece
 use Rattle.isp_scan.specs.declared.leaves.LeafFound.{LeafFound}
 use Rattle.isp_work.specs.Finding.{found_in}
 use Rattle.isp_work.specs.declared.found.Found.{Found}
-use Rattle.isp_exec.specs.Standing.{IsFoundBehind, IsLeft, pieces_by, pieces_of}
+use Rattle.isp_exec.specs.Standing.{IsFoundBehind, IsLeft, pieces_by}
 
 -- ---- a leaf
 

@@ -1,13 +1,13 @@
 -- A statement reads a piece of its table on a file.
-use Rattle.std.proofs.Common.{◌≡◌, ℕ, zero, suc, ◌+◌, ◌-◌, ◌≤◌, ℤ, Bool, true, false, ◌&&◌, List, [], ◌∷◌, ◌++◌, append-nil, drop, length, map, slice_get, Option, Some, None, refl, sym, ◌∙◌, ap, subst, arith, if◌then◌else◌}
-use Rattle.std.specs.Prelude.{nat_lt, slice_set}
+use Rattle.std.proofs.Common.{◌≡◌, ℕ, zero, suc, ◌+◌, ◌-◌, ◌≤◌, ℤ, Bool, true, false, ◌&&◌, List, [], ◌∷◌, ◌++◌, append-nil, drop, length, slice_get, Option, Some, None, refl, sym, ◌∙◌, ap, subst, arith, if◌then◌else◌}
+use Rattle.std.specs.Prelude.{slice_set}
 use Rattle.std.specs.List.{AllByRecursion, fold, list_all}
 use Rattle.std.specs.Map.{values_of}
 use Rattle.isp_base.specs.declared.page_no.PageNo.{PageNo}
 use Rattle.isp_catalog.specs.declared.table.TableDef.{TableDef}
-use Rattle.isp_changes.specs.Changes.{RowChange, held, joined}
+use Rattle.isp_changes.specs.Changes.{held, joined}
 use Rattle.isp_changes.specs.Rows.{AreKeyed, AreRising}
-use Rattle.isp_changes.specs.Stages.{IsOnTheWay, Stage, after_step, asks_room, is_insert, reading, some_outgrow}
+use Rattle.isp_changes.specs.Stages.{IsOnTheWay, Stage, after_step, asks_room, reading, some_outgrow}
 use Rattle.isp_changes.proofs.StageProofs.{steps_lead, steps_stand}
 use Rattle.isp_chained.specs.Courses.{Reaches}
 use Rattle.isp_file_laws.proofs.KeptLaws.{kept_is_plain, table_keyed, table_rises}
@@ -17,8 +17,6 @@ use Rattle.isp_plain.specs.Conditions.{holds}
 use Rattle.isp_plain.specs.Does.{with_set, with_sets}
 use Rattle.isp_plain.specs.Lined.{are_lined, is_lined_row, is_lined_statement, is_lined_table, is_lined_value}
 use Rattle.isp_plain.specs.Tables.{Table}
-use Rattle.isp_plain.specs.Values.{key_of}
-use Rattle.isp_plain.specs.declared.refusal.Refusal.{Refusal}
 use Rattle.isp_plain.specs.declared.refusal.Refusal.TheVariants.{RowTooLarge}
 use Rattle.isp_plain.specs.declared.statement.Assign.{Assign}
 use Rattle.isp_plain.specs.declared.statement.Reply.TheVariants as reply
@@ -35,9 +33,8 @@ use Rattle.isp_scan.proofs.RowLaws.{are_rows, keeps_keys}
 use Rattle.isp_tables.specs.Opened.{IsAtPlace, IsOpen, defs_in}
 use Rattle.isp_tables.proofs.TableLaws.{at_place, file_table, plain_at}
 use Rattle.isp_trx.specs.Transactions.{TrxState}
-use Rattle.isp_trx_laws.specs.FileStages.{IsStageOf}
 use Rattle.isp_work.specs.Finding.{found_in, reads}
-use Rattle.isp_work.specs.Works.{AreReadAs, AreReadOf, Pieces, answered, failed_by, first_of, is_delete, is_select, phase_at, read_out, rows_left, rows_named, schema_in, stage_of, took, went_on}
+use Rattle.isp_work.specs.Works.{AreReadAs, AreReadOf, Pieces, answered, is_delete, is_select, phase_at, read_out, rows_left, rows_named, schema_in, stage_of, took, went_on}
 use Rattle.isp_work.specs.declared.found.Found.{Found}
 use Rattle.isp_work.specs.declared.found.Found.TheVariants as found
 use Rattle.isp_work.specs.declared.phase.Phase.TheVariants.{Reading, RollingBack}

@@ -1,5 +1,5 @@
 -- A piece that is read leaves fewer steps, and rows that fit the columns of their table.
-use Rattle.std.proofs.Common.{◌≡◌, ℕ, ◌+◌, ◌-◌, ◌*◌, ◌^◌, ◌<◌, ◌≤◌, Bool, true, false, List, [], ◌++◌, drop, length, Option, Some, None, refl, sym, ap, subst, arith, if◌then◌else◌}
+use Rattle.std.proofs.Common.{◌≡◌, ℕ, ◌+◌, ◌-◌, ◌*◌, ◌^◌, ◌<◌, ◌≤◌, Bool, true, false, List, [], ◌++◌, Option, Some, None, refl, sym, subst, arith, if◌then◌else◌}
 use Rattle.std.specs.Prelude.{IfSome}
 use Rattle.std.specs.List.{AllByRecursion}
 use Rattle.isp_base.specs.declared.page_no.PageNo.{PageNo}
@@ -15,13 +15,12 @@ use Rattle.isp_scan.proofs.RowLaws.{found_both}
 use Rattle.isp_tables.specs.TableLists.{place_in}
 use Rattle.isp_work.specs.Finding.{reads}
 use Rattle.isp_work.specs.Starting.{start_at, start_of}
-use Rattle.isp_work.specs.Works.{IsSmall, TakesSmall, answered, is_delete, is_select, read_out, rows_left, rows_named, started, took, went_on}
+use Rattle.isp_work.specs.Works.{IsSmall, TakesSmall, answered, is_delete, is_select, read_out, rows_named, started, took, went_on}
 use Rattle.isp_work.specs.declared.found.Found.{Found}
 use Rattle.isp_work.specs.declared.found.Found.TheVariants as found
-use Rattle.isp_work.specs.declared.phase.Phase.{Phase as WorkPhase}
 use Rattle.isp_work.specs.declared.phase.Phase.TheVariants.{Reading}
 use Rattle.isp_work.specs.declared.progress.Progress.{Progress}
-use Rattle.isp_exec.specs.Standing.{IsFit, IsFitIn, IsReading, height, height_in, most_rows}
+use Rattle.isp_exec.specs.Standing.{IsFit, IsFitIn, IsReading, height}
 use Rattle.isp_exec.specs.Starting.{OfNamed, Suits, place_by}
 use Rattle.isp_exec.proofs.FitLaws.{def_there, failed_fit, went_fit}
 use Rattle.isp_exec.proofs.HeightLaws.{dropped_most, failed_height, height_at, went_height}

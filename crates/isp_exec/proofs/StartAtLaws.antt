@@ -1,15 +1,14 @@
 -- A statement begins on a file.
-use Rattle.std.proofs.Common.{◌≡◌, ℕ, ◌+◌, ◌≤◌, ℤ, Bool, true, false, cond, List, [], ◌∷◌, ◌++◌, length, slice_get, Option, Some, None, refl, sym, ◌∙◌, ap, subst, arith, if◌then◌else◌}
-use Rattle.std.specs.Prelude.{nat_lt}
+use Rattle.std.proofs.Common.{◌≡◌, ℕ, ◌+◌, ◌≤◌, ℤ, Bool, true, false, List, [], ◌∷◌, length, slice_get, Option, Some, None, refl, sym, ◌∙◌, ap, subst, arith, if◌then◌else◌}
 use Rattle.isp_catalog.specs.declared.table.TableDef.{TableDef}
 use Rattle.isp_changes.specs.Changes.{OfFound, OfPlace}
 use Rattle.isp_changes.specs.Rows.{AreRisingTables}
 use Rattle.isp_changes.specs.StageLaws.{IsBegun}
-use Rattle.isp_changes.specs.Stages.{HasHeld, IsOnTheWay, ReadsAll, Stage, begun, is_insert, outcome_of}
+use Rattle.isp_changes.specs.Stages.{HasHeld, IsOnTheWay, Stage, begun, is_insert, outcome_of}
 use Rattle.isp_changes.proofs.StageProofs.{reads_in_pieces, steps_begin}
 use Rattle.isp_chained.proofs.CourseLaws.{reaches_self}
 use Rattle.isp_file_laws.proofs.KeptLaws.{kept_is_plain}
-use Rattle.isp_image.specs.Databases.{Database, FileTable, shown, table_of, tables_of}
+use Rattle.isp_image.specs.Databases.{Database, FileTable, shown, tables_of}
 use Rattle.isp_page.specs.declared.pages.Pages.{Ghosts}
 use Rattle.isp_plain.specs.Does.{does}
 use Rattle.isp_plain.specs.Lined.{is_lined_row, is_lined_statement}
@@ -23,20 +22,16 @@ use Rattle.isp_scan.specs.Leaves.{HasPiece, Piece}
 use Rattle.isp_scan.specs.Scanning.{HasFileTable}
 use Rattle.isp_scan.proofs.KeyLaws.{held_by_key}
 use Rattle.isp_scan.proofs.LeafLaws.{few_pieces, pieces_joined, some_piece}
-use Rattle.isp_tables.specs.Opened.{IsAtPlace, IsOpen}
-use Rattle.isp_tables.specs.TableLists.{place_in}
+use Rattle.isp_tables.specs.Opened.{IsOpen}
 use Rattle.isp_tables.proofs.TableLaws.{at_place, file_table, plain_at}
 use Rattle.isp_trx.specs.Transactions.{TrxState}
-use Rattle.isp_work.specs.Finding.{reads}
 use Rattle.isp_work.specs.Starting.{began, place_for, start_at, start_of}
-use Rattle.isp_work.specs.Works.{AreReadAs, Pieces, all_left, answered, first_of, is_rollback, rows_named, stage_of, started, went_on}
-use Rattle.isp_work.specs.declared.phase.Phase.{Phase as WorkPhase}
+use Rattle.isp_work.specs.Works.{AreReadAs, Pieces, all_left, is_rollback, stage_of, started, went_on}
 use Rattle.isp_work.specs.declared.phase.Phase.TheVariants.{Reading, RollingBack}
-use Rattle.isp_work.specs.declared.progress.Progress.{Progress}
 use Rattle.isp_work.proofs.ReadLaws.{begins_stage, reads_all}
 use Rattle.isp_work.proofs.StageLaws.{went_same}
 use Rattle.isp_exec.specs.Events.{Begins}
-use Rattle.isp_exec.specs.Standing.{AreWritableNow, HasRead, IsAt, IsLeft, Leads, pieces_by, pieces_of}
+use Rattle.isp_exec.specs.Standing.{AreWritableNow, HasRead, Leads, pieces_by, pieces_of}
 use Rattle.isp_exec.specs.Starting.{place_by}
 use Rattle.isp_exec.proofs.AtLaws.{no_way, not_behind, went_behind, went_writable}
 use Rattle.isp_exec.proofs.FitLaws.{def_there}
@@ -203,9 +198,6 @@ module _ {S : Type 0} (g : Ghosts S) (now : S) (defs : List TableDef) (trx : Trx
         same = refl;
         begun_is = sym stage ∙ ap (λ (t : Statement). begun tables t pieces) (sym is);
       }
-
-  some_place : (a b : ℕ) → Some a ≡ Some b → a ≡ b
-  some_place a b is = cc
 
   none_place : {X : Type 0} (place : ℕ) → None ≡ Some place → X
   none_place place is = cc

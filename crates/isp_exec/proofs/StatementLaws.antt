@@ -5,8 +5,7 @@ use Rattle.isp_changes.specs.Stages.{is_insert}
 use Rattle.isp_plain.specs.declared.refusal.Refusal.{Refusal}
 use Rattle.isp_plain.specs.declared.refusal.Refusal.TheVariants.{FileFull}
 use Rattle.isp_plain.specs.declared.statement.Reply.TheVariants as reply
-use Rattle.isp_plain.specs.declared.statement.Statement.{Statement}
-use Rattle.isp_work.specs.Works.{answered, changed_by, failed_by, first_of, looked_by, made_by, passed, rows_named, went_on}
+use Rattle.isp_work.specs.Works.{answered, changed_by, failed_by, first_of, looked_by, made_by, rows_named, went_on}
 use Rattle.isp_work.specs.declared.found.Changed.{Changed}
 use Rattle.isp_work.specs.declared.found.Changed.TheVariants as changed
 use Rattle.isp_work.specs.declared.found.Looked.{Looked}

@@ -1,4 +1,4 @@
-use Rattle.std.proofs.Common.{rules, sym, ◌∙◌, ap}
+use Rattle.std.proofs.Common.{rules, ◌∙◌, ap}
 use Rattle.isp_page.specs.State.{FileShape}
 use Rattle.isp_work.specs.Works.{changed_by}
 use Rattle.isp_work.specs.declared.progress.Progress.{Progress}

@@ -1,4 +1,4 @@
-use Rattle.std.proofs.Common.{rules, ◌≡◌, ◌<◌, ℕ, sym, ◌∙◌, ap, subst}
+use Rattle.std.proofs.Common.{rules, ◌<◌, ℕ, sym, ◌∙◌, ap, subst}
 use Rattle.isp_page.specs.State.{FileShape}
 use Rattle.isp_work.specs.Works.{made_by}
 use Rattle.isp_work.specs.declared.progress.Progress.{Progress}
