@@ -1,20 +1,15 @@
 -- What a step reads of its table: the row of a key, or a leaf.
-use Rattle.std.proofs.Common.{◌≡◌, ℕ, suc, ◌+◌, ◌≤◌, ◌==◌, ℤ, Bool, true, false, List, [], ◌∷◌, length, Option, Some, None, refl, sym, ◌∙◌, ap, subst, arith, if◌then◌else◌}
-use Rattle.std.specs.Prelude.{Result, Ok, Err, IfErr, IfOk, IfSome}
-use Rattle.std.proofs.lemmas.Bool.Decides.{nat_tests}
-use Rattle.isp_base.specs.declared.page_no.PageNo.{PageNo}
+use Rattle.std.proofs.Common.{◌≡◌, ℕ, ℤ, List, [], ◌∷◌, Option, None, sym, ◌∙◌, ap, subst}
+use Rattle.std.specs.Prelude.{Result, Ok, Err, IfErr, IfOk}
 use Rattle.isp_catalog.specs.declared.table.TableDef.{TableDef}
-use Rattle.isp_changes.specs.Changes.{found_at}
-use Rattle.isp_image.specs.Databases.{FileTable, shown}
+use Rattle.isp_image.specs.Databases.{FileTable}
 use Rattle.isp_page.specs.Steps.{IsNoDamageOrLacks}
 use Rattle.isp_page.specs.declared.fault.Fault.{Fault}
 use Rattle.isp_plain.specs.declared.statement.Statement.{Statement}
 use Rattle.isp_plain.specs.declared.value.Schema.{Schema}
 use Rattle.isp_scan.specs.Keys.{named_key}
-use Rattle.isp_scan.specs.Leaves.{HasPiece, IsBehind, IsLeafFound, IsNext, Piece}
+use Rattle.isp_scan.specs.Leaves.{HasPiece, IsBehind, IsLeafFound, Piece}
 use Rattle.isp_scan.specs.declared.leaves.LeafFound.{LeafFound}
-use Rattle.isp_work.specs.Finding.{found_in}
-use Rattle.isp_work.specs.declared.found.Found.{Found}
 use Rattle.isp_exec.specs.Standing.{IsFoundBehind, IsLeft, pieces_by}
 
 -- ---- a leaf
