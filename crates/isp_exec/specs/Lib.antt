@@ -1,4 +1,3 @@
 pub mod Standing
 pub mod Starting
-pub mod Changing
 pub mod Events

@@ -1,2 +1,1 @@
 pub mod UndoLaws
-pub mod WriteLaws

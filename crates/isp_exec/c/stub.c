@@ -1,0 +1,1 @@
+unsigned isp_stub(void) { return 0; }

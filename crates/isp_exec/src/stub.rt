@@ -1,0 +1,6 @@
+//! STUB.
+
+unsafe extern "C" {
+    pub safe fn isp_stub() -> u32
+        ensures no { ⊥ };
+}
