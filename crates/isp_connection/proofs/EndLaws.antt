@@ -186,7 +186,7 @@ module _ {S : Type 0} (g : Ghosts S) (mid now : S) (c : ConnectionState) (trx : 
     comes = record {
       after = done.after;
       holds = subst (λ (s : State). Holds g now c s done.after) left
-      (holds_inside g now c state d done.after after full opened setup same inside present tables (done.same not ∙ stand));
+          (holds_inside g now c state d done.after after full opened setup same inside present tables (done.same not ∙ stand));
       reaches = reached;
     };
     cause = caused;
@@ -199,7 +199,7 @@ module _ {S : Type 0} (g : Ghosts S) (mid now : S) (c : ConnectionState) (trx : 
     comes = record {
       after = k.after;
       holds = subst (λ (s : State). Holds g now c s k.after) left
-      (holds_outside g now c state d k.after after full k.opened k.none setup same outside present (rest outside) (k.same ∙ tables) (k.committed_are ∙ sym k.same));
+          (holds_outside g now c state d k.after after full k.opened k.none setup same outside present (rest outside) (k.same ∙ tables) (k.committed_are ∙ sym k.same));
       reaches = reaches_on (g.shape now).pages d done.after k.after reached k.reaches;
     };
     cause = λ filled. fills_later (g.shape now).pages d done.after k.after (caused filled) k.reaches;

@@ -5,7 +5,7 @@ use Rattle.isp_changes.specs.Changes.{RowChange, after_change, after_changes}
 use Rattle.isp_changes.specs.Stages.{BringsBack, found_full, outcome_by, ready}
 use Rattle.isp_chained.specs.Courses.{Reaches}
 use Rattle.isp_chained.proofs.CourseLaws.{reaches_on, reaches_self}
-use Rattle.isp_exec.specs.Events.{Goes, RollsBack, goes_on}
+use Rattle.isp_exec.specs.Events.{Goes, RollsBack, TakesBack, goes_on}
 use Rattle.isp_exec.specs.Standing.{IsAt}
 use Rattle.isp_exec.specs.declared.step.Step.{Step}
 use Rattle.isp_exec.specs.declared.step.Step.TheVariants as step
@@ -92,10 +92,10 @@ pub still_at : {S : Type 0} (g : Ghosts S) (old : S) (defs : List TableDef) (trx
 still_at g old defs trx start work at now defs_now trx_now work_now did on goes = subst (λ (w : Progress). IsAt g now defs_now trx_now start w) (sym (goes.on on)) goes.next.after
 
 -- it is ready, and done
-pub ready_done : {S : Type 0} (g : Ghosts S) (old : S) (defs : List TableDef) (trx : TrxState) (start : Database) (work : Progress) (at : IsAt g old defs trx start work) (now : S) (defs_now : List TableDef) (trx_now : TrxState) (work_now : Progress) (answer : Reply)
-    → Goes g at now defs_now trx_now work_now (step.Ready answer) → IsDone g now defs_now trx_now work.statement start answer
-ready_done g old defs trx start work at now defs_now trx_now work_now answer goes =
-    let is = goes.done answer refl in
+pub ready_done : {S : Type 0} (g : Ghosts S) (old : S) (defs : List TableDef) (trx : TrxState) (start : Database) (work : Progress) (at : IsAt g old defs trx start work) (now : S) (defs_now : List TableDef) (trx_now : TrxState) (work_now : Progress) (did : Step) (answer : Reply) → did ≡ step.Ready answer
+    → Goes g at now defs_now trx_now work_now did → IsDone g now defs_now trx_now work.statement start answer
+ready_done g old defs trx start work at now defs_now trx_now work_now did answer ends goes =
+    let is = goes.done answer ends in
     let whole : IsDone g now defs_now trx_now goes.work_then.statement start goes.work_then.reply = done g now defs_now trx_now start goes.work_then goes.next.after is.0 in
     subst (λ (s : Statement). IsDone g now defs_now trx_now s start answer) goes.stated (subst (IsDone g now defs_now trx_now goes.work_then.statement start) is.1 whole)
 
@@ -116,28 +116,33 @@ module _ {S : Type 0} (g : Ghosts S) (mid new : S) (defs defs_now : List TableDe
   reached : Reaches (g.shape new).pages d some.after
   reached = subst (λ (m : ℕ). Reaches m d some.after) (sym pages) some.reaches
 
-  -- one more is
-  pub undid_more : RollsBack g new defs_now trx_now work_now some.after step.Event → UndidSome g new defs_now trx_now work_now d
-  undid_more (u, more) = record {
-    after = u.after;
-    opened = u.opened;
-    same =
-        sym (ap (λ (l : List FileImage). after_changes (tables_of some.after) (map back_of l)) u.noted ∙ ap (λ (ts : List Table). after_changes ts (map back_of u.after.images)) (sym u.tables))
-        ∙ some.same;
-    reaches = reaches_on (g.shape new).pages d some.after u.after reached u.reaches;
-    more = more;
-  }
+  module _ (did : Step) (rolls : RollsBack g new defs_now trx_now work_now some.after did) where
+    -- one more is
+    pub undid_more : did ≡ step.Event → UndidSome g new defs_now trx_now work_now d
+    undid_more is =
+        let u : DidUndo g new defs_now trx_now some.after = subst (TakesBack g new defs_now trx_now some.after) is rolls.0 in
+        record {
+          after = u.after;
+          opened = u.opened;
+          same =
+              sym (ap (λ (l : List FileImage). after_changes (tables_of some.after) (map back_of l)) u.noted ∙ ap (λ (ts : List Table). after_changes ts (map back_of u.after.images)) (sym u.tables))
+              ∙ some.same;
+          reaches = reaches_on (g.shape new).pages d some.after u.after reached u.reaches;
+          more = rolls.1;
+        }
 
-  -- none is left
-  pub all_undone : (answer : Reply) → RollsBack g new defs_now trx_now work_now some.after (step.Ready answer) → GoesBack g new defs_now trx_now d
-  all_undone answer (opened, none, ok) = record {
-    after = some.after;
-    opened = opened;
-    none = none;
-    back = sym (ap (λ (l : List FileImage). after_changes (tables_of some.after) (map back_of l)) none) ∙ some.same;
-    reaches = reached;
-  }
+    -- it doesn't fail
+    pub undid_never : (number : ℕ) → did ≡ step.Failing number → UndidSome g new defs_now trx_now work_now d
+    undid_never number is = absurd (subst (TakesBack g new defs_now trx_now some.after) is rolls.0)
 
-  -- it doesn't fail
-  pub undid_never : {X : Type 0} (number : ℕ) → RollsBack g new defs_now trx_now work_now some.after (step.Failing number) → X
-  undid_never number no = absurd no
+    -- none is left
+    pub all_undone : (answer : Reply) → did ≡ step.Ready answer → GoesBack g new defs_now trx_now d
+    all_undone answer is =
+        let taken : TakesBack g new defs_now trx_now some.after (step.Ready answer) = subst (TakesBack g new defs_now trx_now some.after) is rolls.0 in
+        record {
+          after = some.after;
+          opened = taken.0;
+          none = taken.1;
+          back = sym (ap (λ (l : List FileImage). after_changes (tables_of some.after) (map back_of l)) taken.1) ∙ some.same;
+          reaches = reached;
+        }

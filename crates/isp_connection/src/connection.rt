@@ -185,7 +185,12 @@ impl<P: Pages> Connection<P> {
             (place_at self.now.context.trx.session self.now.inside) text.now) }
     {
         let place = place_of(self.context.trx.session(), self.inside);
-        meaning_of(self.alloc, self.context.tables.defs(), place, text.as_slice())
+        meaning_of(
+            self.alloc,
+            self.context.tables.defs(),
+            place,
+            text.as_slice(),
+        )
     }
 
     /// What the text is answered, and what it does. Outside of a transaction it is committed, for good, before it is answered.

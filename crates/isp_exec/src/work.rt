@@ -1,6 +1,6 @@
 //! A statement as a value: how it begins, and its steps.
 
-ghost use Rattle.std.specs.Prelude.{◌≡◌, IfErr, IfOk, OnOk};
+ghost use Rattle.std.specs.Prelude.{◌≡◌, true, false, IfErr, IfOk, OnOk};
 ghost use Rattle.isp_image.specs.Databases.{Database};
 ghost use Rattle.isp_image.specs.Faults.{NamesLaterOrLacks};
 ghost use Rattle.isp_page.specs.Steps.{IsNoDamageOrLacks};

@@ -1,3 +1,4 @@
+use Rattle.isp_connection.specs.Connections.{state_of}
 use Rattle.isp_image.specs.Databases.{tables_of}
 use Rattle.isp_serial.specs.Alone.{none_full, settled}
 use Rattle.isp_sessions.proofs.ExitLaws.{setup_cut, setup_ends}
@@ -6,31 +7,33 @@ use Rattle.isp_sessions.proofs.playing.answer_setup.Goals as goal
 
 pub returns-in-Ok-clause-answered : goal.returns-in-Ok-clause-answered
 returns-in-Ok-clause-answered g c = λ tells d rests.
-    let old = c.args.pages.now in
-    let mid = c.open.new.pages in
+    let old = c.args.pages in
+    let begun = c.in-Ok.connection in
+    let new = c.answer_texts.new.connection in
     let kept = c.in-Ok.ensures.kept.keeps in
-    let runs = opened g.P.Pages mid c.in-Ok.connection d (g.P.Pages.shape old).pages old rests (c.in-Ok.ensures.opened tells d rests.kept rests.tidy) in
-    setup_ends g.P.Pages d c.as_slice.result.now c.args.script.now.setup c.as_slice.ensures old mid c.answer_texts.new.pages c.in-Ok.connection.trx.session kept.same_shape kept.silent c.in-Ok.ensures.session
-    c.answer_texts.new.connection c.answer_texts.ensures.stays.shape c.answer_texts.result (c.answer_texts.ensures.answered tells none_full d (settled (tables_of d)) runs)
+    let runs = opened g.P.Pages begun.context.pages (state_of begun) d (g.P.Pages.shape old).pages old rests (c.in-Ok.ensures.opened tells d rests.kept rests.tidy) in
+    setup_ends g.P.Pages d c.as_slice.result.now c.args.script.now.setup c.as_slice.ensures old begun.context.pages new.context.pages begun.context.trx.session kept.same_shape kept.silent c.in-Ok.ensures.session
+    (state_of new) c.answer_texts.ensures.stays.shape c.answer_texts.result (c.answer_texts.ensures.answered tells none_full d (settled (tables_of d)) runs)
 
 pub returns-in-Ok-clause-part : goal.returns-in-Ok-clause-part
 returns-in-Ok-clause-part g c = λ tells d rests.
-    let old = c.args.pages.now in
-    let mid = c.open.new.pages in
+    let old = c.args.pages in
+    let begun = c.in-Ok.connection in
     let kept = c.in-Ok.ensures.kept.keeps in
-    let runs = opened g.P.Pages mid c.in-Ok.connection d (g.P.Pages.shape old).pages old rests (c.in-Ok.ensures.opened tells d rests.kept rests.tidy) in
-    setup_cut g.P.Pages d c.as_slice.result.now c.args.script.now.setup c.as_slice.ensures old mid c.answer_texts.new.pages c.in-Ok.connection.trx.session kept.same_shape kept.silent c.in-Ok.ensures.session
+    let runs = opened g.P.Pages begun.context.pages (state_of begun) d (g.P.Pages.shape old).pages old rests (c.in-Ok.ensures.opened tells d rests.kept rests.tidy) in
+    setup_cut g.P.Pages d c.as_slice.result.now c.args.script.now.setup c.as_slice.ensures old begun.context.pages c.answer_texts.new.connection.context.pages begun.context.trx.session kept.same_shape kept.silent c.in-Ok.ensures.session
     c.answer_texts.result (c.answer_texts.ensures.part tells none_full d (settled (tables_of d)) runs)
 
 pub returns-in-Ok-clause-sound : goal.returns-in-Ok-clause-sound
 returns-in-Ok-clause-sound g c = λ tells d rests.
-    let old = c.args.pages.now in
+    let old = c.args.pages in
+    let begun = c.in-Ok.connection in
     c.answer_texts.ensures.sound tells d (settled (tables_of d))
-    (opened g.P.Pages c.open.new.pages c.in-Ok.connection d (g.P.Pages.shape old).pages old rests (c.in-Ok.ensures.opened tells d rests.kept rests.tidy))
+    (opened g.P.Pages begun.context.pages (state_of begun) d (g.P.Pages.shape old).pages old rests (c.in-Ok.ensures.opened tells d rests.kept rests.tidy))
 
 pub returns-in-Err-clause-part : goal.returns-in-Err-clause-part
 returns-in-Err-clause-part g c = λ tells d rests.
-    setup_unopened g.P.Pages (g.P.Pages.shape c.args.pages.now).pages d c.args.script.now.setup c.args.pages.now c.open.new.pages c.in-Err.ensures.kept.keeps.silent
+    setup_unopened g.P.Pages (g.P.Pages.shape c.args.pages).pages d c.args.script.now.setup c.args.pages c.in-Err.pages c.in-Err.ensures.kept.keeps.silent
 
 pub returns-in-Err-clause-sound : goal.returns-in-Err-clause-sound
 returns-in-Err-clause-sound g c = λ tells d rests. c.in-Err.ensures.sound tells d rests.kept

@@ -27,17 +27,17 @@ returns-in_ok-roll_back-in-Rollback-clause-answered g c tells d state h may =
 pub execute-requires-clause-stays : goal.execute-requires-clause-stays
 execute-requires-clause-stays g c = ap effect_by c.in-Create.is
 
-pub execute-in-Insert-requires-clause-stays : goal.execute-in-Insert-requires-clause-stays
-execute-in-Insert-requires-clause-stays g c = ap effect_by c.in-Insert.is
+pub execute-requires-in-Insert-clause-stays : goal.execute-requires-in-Insert-clause-stays
+execute-requires-in-Insert-clause-stays g c = ap effect_by c.in-Insert.is
 
-pub execute-in-Select-requires-clause-stays : goal.execute-in-Select-requires-clause-stays
-execute-in-Select-requires-clause-stays g c = ap effect_by c.in-Select.is
+pub execute-requires-in-Select-clause-stays : goal.execute-requires-in-Select-clause-stays
+execute-requires-in-Select-clause-stays g c = ap effect_by c.in-Select.is
 
-pub execute-in-Update-requires-clause-stays : goal.execute-in-Update-requires-clause-stays
-execute-in-Update-requires-clause-stays g c = ap effect_by c.in-Update.is
+pub execute-requires-in-Update-clause-stays : goal.execute-requires-in-Update-clause-stays
+execute-requires-in-Update-clause-stays g c = ap effect_by c.in-Update.is
 
-pub execute-in-Delete-requires-clause-stays : goal.execute-in-Delete-requires-clause-stays
-execute-in-Delete-requires-clause-stays g c = ap effect_by c.in-Delete.is
+pub execute-requires-in-Delete-clause-stays : goal.execute-requires-in-Delete-clause-stays
+execute-requires-in-Delete-clause-stays g c = ap effect_by c.in-Delete.is
 
-pub execute-in-Refused-requires-clause-stays : goal.execute-in-Refused-requires-clause-stays
-execute-in-Refused-requires-clause-stays g c = ap effect_by c.in-Refused.is
+pub execute-requires-in-Refused-clause-stays : goal.execute-requires-in-Refused-clause-stays
+execute-requires-in-Refused-clause-stays g c = ap effect_by c.in-Refused.is
