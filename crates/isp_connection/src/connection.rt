@@ -62,13 +62,15 @@ impl<P: Pages> Connection<P> {
         requires usable { P.usable pages ≡ true }
         requires none { (P.mini pages).is_begun ≡ false }
         ensures kept { ContinuesOrLacks P.Pages pages (pages_of result) (fault_of result) }
-        ensures contents { P.tells → IfOk result (λ c. P.contents c.context.pages ≡ P.contents pages) }
+        ensures contents { P.tells
+            → IfOk result (λ c. P.contents c.context.pages ≡ P.contents pages) }
         ensures serves { IfOk result (λ c. Serves P.Pages c.context.pages c.context.tables) }
         ensures session { IfOk result (λ c. c.context.trx.session ≡ session) }
         ensures opened { P.tells → (d : Database)
             → ChainedFile (P.shape pages).pages (P.contents pages) d no_chains
             → HasNoMarked d
-            → IfOk result (λ c. Holds P.Pages c.context.pages (state_of c) (settled (tables_of d)) d) }
+            → IfOk result (λ c. Holds P.Pages c.context.pages (state_of c)
+            (settled (tables_of d)) d) }
         ensures sound { P.tells → (d : Database)
             → ChainedFile (P.shape pages).pages (P.contents pages) d no_chains
             → IfErr result (λ e. IsNoDamageOrLacks e.0) }
@@ -111,7 +113,8 @@ impl<P: Pages> Connection<P> {
         requires suits { Suits self.old.context.tables statement }
         requires stays { effect_by statement ≡ stays }
         ensures kept { Keeps P.Pages self.old.context.pages self.new.context.pages result }
-        ensures serves { OnOk result (Serves P.Pages self.new.context.pages self.new.context.tables) }
+        ensures serves { OnOk result (Serves P.Pages self.new.context.pages
+            self.new.context.tables) }
         ensures session { OnOk result (self.new.context.trx.session
             ≡ self.old.context.trx.session) }
         ensures answered { P.tells → (d : Database) (state : State)
@@ -136,7 +139,8 @@ impl<P: Pages> Connection<P> {
         requires serves { Serves P.Pages self.old.context.pages self.old.context.tables }
         requires suits { Suits self.old.context.tables statement }
         ensures kept { Keeps P.Pages self.old.context.pages self.new.context.pages result }
-        ensures serves { OnOk result (Serves P.Pages self.new.context.pages self.new.context.tables) }
+        ensures serves { OnOk result (Serves P.Pages self.new.context.pages
+            self.new.context.tables) }
         ensures session { OnOk result (self.new.context.trx.session
             ≡ self.old.context.trx.session) }
         ensures answered { P.tells → (d : Database) (state : State)
@@ -201,7 +205,8 @@ impl<P: Pages> Connection<P> {
     pub fn answer(&mut self, text: &Bytes) -> Result<Reply, Fault>
         requires serves { Serves P.Pages self.old.context.pages self.old.context.tables }
         ensures kept { Keeps P.Pages self.old.context.pages self.new.context.pages result }
-        ensures serves { OnOk result (Serves P.Pages self.new.context.pages self.new.context.tables) }
+        ensures serves { OnOk result (Serves P.Pages self.new.context.pages
+            self.new.context.tables) }
         ensures session { OnOk result (self.new.context.trx.session
             ≡ self.old.context.trx.session) }
         ensures answered { P.tells → (d : Database) (state : State)

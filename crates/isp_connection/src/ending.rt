@@ -45,7 +45,8 @@ impl<P: Pages> Connection<P> {
     pub(crate) fn commit(&mut self) -> Result<(), Fault>
         requires serves { Serves P.Pages self.old.context.pages self.old.context.tables }
         ensures kept { Keeps P.Pages self.old.context.pages self.new.context.pages result }
-        ensures serves { OnOk result (Serves P.Pages self.new.context.pages self.new.context.tables) }
+        ensures serves { OnOk result (Serves P.Pages self.new.context.pages
+            self.new.context.tables) }
         ensures session { OnOk result (self.new.context.trx.session
             ≡ self.old.context.trx.session) }
         ensures done { P.tells → (d : Database)
@@ -70,7 +71,8 @@ impl<P: Pages> Connection<P> {
     pub fn roll_back(&mut self) -> Result<(), Fault>
         requires serves { Serves P.Pages self.old.context.pages self.old.context.tables }
         ensures kept { Keeps P.Pages self.old.context.pages self.new.context.pages result }
-        ensures serves { OnOk result (Serves P.Pages self.new.context.pages self.new.context.tables) }
+        ensures serves { OnOk result (Serves P.Pages self.new.context.pages
+            self.new.context.tables) }
         ensures session { OnOk result (self.new.context.trx.session
             ≡ self.old.context.trx.session) }
         ensures back { P.tells → (d : Database) (state : State)
@@ -96,7 +98,8 @@ impl<P: Pages> Connection<P> {
     pub fn sweep(&mut self) -> Result<(), Fault>
         requires serves { Serves P.Pages self.old.context.pages self.old.context.tables }
         ensures kept { Keeps P.Pages self.old.context.pages self.new.context.pages result }
-        ensures serves { OnOk result (Serves P.Pages self.new.context.pages self.new.context.tables) }
+        ensures serves { OnOk result (Serves P.Pages self.new.context.pages
+            self.new.context.tables) }
         ensures session { OnOk result (self.new.context.trx.session
             ≡ self.old.context.trx.session) }
         ensures swept { P.tells → (d : Database) (state : State)
