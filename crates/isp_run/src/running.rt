@@ -132,14 +132,25 @@ fn work<W: World>(alloc: Global, script: &Script, store: Store<W>) -> (Status, W
     ensures worked { HasWorked W.World script.now store.stable.world (contents W.World store)
         (shape W.World store) result.0 result.1 }
 {
+    let (status, store) = work_on(alloc, script, store);
+    (status, store.into_world())
+}
+
+fn work_on<W: World>(alloc: Global, script: &Script, store: Store<W>) -> (Status, Store<W>)
+    requires slots { All HasSlot script.now.sessions }
+    requires usable { store.is_usable ≡ true }
+    requires none { (mini W.World store).is_begun ≡ false }
+    ensures worked { HasWorked W.World script.now store.stable.world (contents W.World store)
+        (shape W.World store) result.0 result.1.stable.world }
+{
     match play(alloc, script, store) {
         (Ok(()), store) => {
             let mut store = store;
             match store.checkpoint() {
-                Ok(()) => (Status::Done, store.into_world()),
-                Err(fault) => (status_of(Fault::Store(fault)), store.into_world()),
+                Ok(()) => (Status::Done, store),
+                Err(fault) => (status_of(Fault::Store(fault)), store),
             }
         }
-        (Err(fault), store) => (status_of(fault), store.into_world()),
+        (Err(fault), store) => (status_of(fault), store),
     }
 }

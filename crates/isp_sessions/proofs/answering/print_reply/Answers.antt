@@ -9,7 +9,7 @@ sweep-requires g c =
     let old = c.args.connection.now in
     let mid = c.print_answer.new.connection in
     let e = c.in-Ok.ensures in
-    still_serves g.P.Pages old.context.pages mid.context.pages (state_of old) (state_of mid) e.same e.stays.shape e.stays.usable e.stays.none c.requires.serves
+    record { serves = still_serves g.P.Pages old.context.pages mid.context.pages (state_of old) (state_of mid) e.same e.stays.shape e.stays.usable e.stays.none c.requires.serves }
 
 pub returns-in-Ok-clause-session : goal.returns-in-Ok-clause-session
 returns-in-Ok-clause-session g c =

@@ -11,8 +11,8 @@ returns-in-Ok-clause-answered g c = λ tells base d rests.
     let begun = c.in-Ok.connection in
     let kept = c.in-Ok.ensures.kept.keeps in
     let runs = opened g.P.Pages begun.context.pages (state_of begun) d (g.P.Pages.shape old).pages old rests (c.in-Ok.ensures.opened tells d rests.kept rests.tidy) in
-    opened_ends g.P.Pages d c.as_slice.result.now c.args.session.now.texts c.as_slice.ensures old begun.context.pages c.answer_all.new.connection.context.pages begun.context.trx.session kept.same_shape kept.silent
-    c.args.session.now.number c.in-Ok.ensures.session base c.answer_all.result (c.answer_all.ensures.answered tells base d (settled (tables_of d)) runs)
+    opened_ends g.P.Pages d c.as_slice.result.now c.args.session.now.texts c.as_slice.ensures old begun.context.pages c.answer_all-end.new.connection.context.pages begun.context.trx.session kept.same_shape kept.silent
+    c.args.session.now.number c.in-Ok.ensures.session base c.answer_all-end.result (c.answer_all-end.ensures.answered tells base d (settled (tables_of d)) runs)
 
 pub returns-in-Ok-clause-part : goal.returns-in-Ok-clause-part
 returns-in-Ok-clause-part g c = λ tells base d rests.
@@ -20,14 +20,14 @@ returns-in-Ok-clause-part g c = λ tells base d rests.
     let begun = c.in-Ok.connection in
     let kept = c.in-Ok.ensures.kept.keeps in
     let runs = opened g.P.Pages begun.context.pages (state_of begun) d (g.P.Pages.shape old).pages old rests (c.in-Ok.ensures.opened tells d rests.kept rests.tidy) in
-    opened_cut g.P.Pages d c.as_slice.result.now c.args.session.now.texts c.as_slice.ensures old begun.context.pages c.answer_all.new.connection.context.pages begun.context.trx.session kept.same_shape kept.silent
-    c.args.session.now.number c.in-Ok.ensures.session base c.answer_all.result (c.answer_all.ensures.part tells base d (settled (tables_of d)) runs)
+    opened_cut g.P.Pages d c.as_slice.result.now c.args.session.now.texts c.as_slice.ensures old begun.context.pages c.answer_all-end.new.connection.context.pages begun.context.trx.session kept.same_shape kept.silent
+    c.args.session.now.number c.in-Ok.ensures.session base c.answer_all-end.result (c.answer_all-end.ensures.part tells base d (settled (tables_of d)) runs)
 
 pub returns-in-Ok-clause-sound : goal.returns-in-Ok-clause-sound
 returns-in-Ok-clause-sound g c = λ tells d rests.
     let old = c.args.pages in
     let begun = c.in-Ok.connection in
-    c.answer_all.ensures.sound tells d (settled (tables_of d))
+    c.answer_all-end.ensures.sound tells d (settled (tables_of d))
     (opened g.P.Pages begun.context.pages (state_of begun) d (g.P.Pages.shape old).pages old rests (c.in-Ok.ensures.opened tells d rests.kept rests.tidy))
 
 pub returns-in-Err-clause-part : goal.returns-in-Err-clause-part

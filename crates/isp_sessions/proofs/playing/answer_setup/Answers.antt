@@ -9,11 +9,11 @@ pub returns-in-Ok-clause-answered : goal.returns-in-Ok-clause-answered
 returns-in-Ok-clause-answered g c = λ tells d rests.
     let old = c.args.pages in
     let begun = c.in-Ok.connection in
-    let new = c.answer_texts.new.connection in
+    let new = c.answer_texts-end.new.connection in
     let kept = c.in-Ok.ensures.kept.keeps in
     let runs = opened g.P.Pages begun.context.pages (state_of begun) d (g.P.Pages.shape old).pages old rests (c.in-Ok.ensures.opened tells d rests.kept rests.tidy) in
     setup_ends g.P.Pages d c.as_slice.result.now c.args.script.now.setup c.as_slice.ensures old begun.context.pages new.context.pages begun.context.trx.session kept.same_shape kept.silent c.in-Ok.ensures.session
-    (state_of new) c.answer_texts.ensures.stays.shape c.answer_texts.result (c.answer_texts.ensures.answered tells none_full d (settled (tables_of d)) runs)
+    (state_of new) c.answer_texts-end.ensures.stays.shape c.answer_texts-end.result (c.answer_texts-end.ensures.answered tells none_full d (settled (tables_of d)) runs)
 
 pub returns-in-Ok-clause-part : goal.returns-in-Ok-clause-part
 returns-in-Ok-clause-part g c = λ tells d rests.
@@ -21,14 +21,14 @@ returns-in-Ok-clause-part g c = λ tells d rests.
     let begun = c.in-Ok.connection in
     let kept = c.in-Ok.ensures.kept.keeps in
     let runs = opened g.P.Pages begun.context.pages (state_of begun) d (g.P.Pages.shape old).pages old rests (c.in-Ok.ensures.opened tells d rests.kept rests.tidy) in
-    setup_cut g.P.Pages d c.as_slice.result.now c.args.script.now.setup c.as_slice.ensures old begun.context.pages c.answer_texts.new.connection.context.pages begun.context.trx.session kept.same_shape kept.silent c.in-Ok.ensures.session
-    c.answer_texts.result (c.answer_texts.ensures.part tells none_full d (settled (tables_of d)) runs)
+    setup_cut g.P.Pages d c.as_slice.result.now c.args.script.now.setup c.as_slice.ensures old begun.context.pages c.answer_texts-end.new.connection.context.pages begun.context.trx.session kept.same_shape kept.silent c.in-Ok.ensures.session
+    c.answer_texts-end.result (c.answer_texts-end.ensures.part tells none_full d (settled (tables_of d)) runs)
 
 pub returns-in-Ok-clause-sound : goal.returns-in-Ok-clause-sound
 returns-in-Ok-clause-sound g c = λ tells d rests.
     let old = c.args.pages in
     let begun = c.in-Ok.connection in
-    c.answer_texts.ensures.sound tells d (settled (tables_of d))
+    c.answer_texts-end.ensures.sound tells d (settled (tables_of d))
     (opened g.P.Pages begun.context.pages (state_of begun) d (g.P.Pages.shape old).pages old rests (c.in-Ok.ensures.opened tells d rests.kept rests.tidy))
 
 pub returns-in-Err-clause-part : goal.returns-in-Err-clause-part
