@@ -11,7 +11,7 @@ use Rattle.isp_plain.specs.declared.value.Row.{Row}
 use Rattle.isp_plain.specs.declared.value.Schema.{Schema}
 use Rattle.isp_row.specs.RowSpelling.{IsRowOf}
 use Rattle.isp_work.specs.declared.found.Found.{Found}
-use Rattle.isp_work.specs.declared.found.Found.TheVariants.{Rows}
+use Rattle.isp_work.specs.declared.found.Found.TheVariants.{Changing}
 
 -- a row of the schema with no more bytes than a row may have
 pub record IsPutRow (schema : Schema) (row : Row) : Type 0 where
@@ -28,7 +28,7 @@ SetsFitIn schema _ = Unit {0}
 
 -- the rows that were found can be written
 abbrev pub AreFoundNew : Schema → Found → Type 0
-AreFoundNew schema (Rows rows) = AllByRecursion (IsPutRow schema) rows
+AreFoundNew schema (Changing rows) = AllByRecursion (IsPutRow schema) rows
 AreFoundNew schema _ = Unit {0}
 
 abbrev pub AreFoundFor : Schema → Statement → Found → Type 0

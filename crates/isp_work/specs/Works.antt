@@ -12,7 +12,7 @@ use Rattle.isp_plain.specs.declared.refusal.Refusal.TheVariants.{DuplicateKey, F
 use Rattle.isp_plain.specs.declared.statement.Reply.{Reply}
 use Rattle.isp_plain.specs.declared.statement.Reply.TheVariants as reply
 use Rattle.isp_plain.specs.declared.statement.Statement.{Statement}
-use Rattle.isp_plain.specs.declared.statement.Statement.TheVariants.{Create, Delete, Insert, Rollback, Select, Update}
+use Rattle.isp_plain.specs.declared.statement.Statement.TheVariants.{Create, Delete, Insert, Select, Update}
 use Rattle.isp_plain.specs.declared.value.Row.{Row}
 use Rattle.isp_plain.specs.declared.value.Schema.{Schema}
 use Rattle.isp_plain.specs.Does.{cut, with_sets}
@@ -124,10 +124,6 @@ failed_by work refusal noted = if nat_lt work.base noted then record work { phas
 
 abbrev pub made_by : Progress → Bool → ℕ → Progress
 made_by work made noted = if made then answered work reply.Ok else failed_by work FileFull noted
-
-abbrev pub is_rollback : Statement → Bool
-is_rollback Rollback = true
-is_rollback _ = false
 
 abbrev pub is_select : Statement → Bool
 is_select (Select name columns w) = true

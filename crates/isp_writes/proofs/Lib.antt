@@ -1,1 +1,2 @@
 pub mod UndoLaws
+pub mod WriteLaws
