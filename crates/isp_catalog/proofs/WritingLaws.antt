@@ -7,7 +7,7 @@ use Rattle.std.proofs.lemmas.Bool.Decides.{nat_tests}
 use Rattle.std.proofs.lemmas.List.{flat_map_more, length-append, length-drop, length-map, length-take-le, take_all, take_more}
 use Rattle.std.proofs.lemmas.List.Elements.{All-take}
 use Rattle.isp_disk.specs.Moments.{Image, image_of, put, slice}
-use Rattle.isp_format.specs.Definition.{DefinedColumn, DefinedTable, SpellsColumn, SpellsColumns, SpellsName, SpellsTable, definition_page, definition_place, flag_byte}
+use Rattle.isp_format.specs.Definition.{DefinedColumn, DefinedTable, SpellsColumn, SpellsColumns, SpellsName, SpellsTable, definition_page, definition_place, first_tree_place, flag_byte, root_place, second_tree_place}
 use Rattle.isp_format.specs.Header.{header_of}
 use Rattle.isp_format.specs.Numbers.{bytes_of}
 use Rattle.isp_format.specs.Ranges.{Contents, page_of}
@@ -63,12 +63,15 @@ four_put old one two three four at next behind last x a b d next_is behind_is la
     put_four ∙ put_more old three at ((a ++ x ∷ []) ++ b) d last (omega (arith, long_two, long_three, next_is, behind_is, last_is)) s3
     ∙ ap (put old at) (append_assoc (a ++ x ∷ []) b d ∙ append_assoc a (x ∷ []) (b ++ d))
 
-pub roots_put : (old one two three : Image) (at : ℕ) (def : TableDef) → one ≡ put old at (bytes_of 4 def.root.0) → two ≡ put one (at + 4) (bytes_of 4 (first_tree def)) → three ≡ put two (at + 8) (bytes_of 4 (second_tree def)) → three ≡ put old at (roots_field def)
+pub roots_put : (old one two three : Image) (at : ℕ) (def : TableDef) → one ≡ put old (at + root_place) (bytes_of 4 def.root.0) → two ≡ put one (at + first_tree_place) (bytes_of 4 (first_tree def))
+    → three ≡ put two (at + second_tree_place) (bytes_of 4 (second_tree def)) → three ≡ put old (at + root_place) (roots_field def)
 roots_put old one two three at def put_one put_two put_three =
     let a : List ℕ = bytes_of 4 def.root.0 in
     let b : List ℕ = bytes_of 4 (first_tree def) in
-    let s2 : two ≡ put old at (a ++ b) = put_two ∙ put_more old one at a b (at + 4) refl put_one in
-    put_three ∙ put_more old two at (a ++ b) (bytes_of 4 (second_tree def)) (at + 8) refl s2 ∙ ap (put old at) (append_assoc a b (bytes_of 4 (second_tree def)))
+    let behind : at + first_tree_place ≡ at + root_place + 4 = omega arith in
+    let last : at + second_tree_place ≡ at + root_place + 8 = omega arith in
+    let s2 : two ≡ put old (at + root_place) (a ++ b) = put_two ∙ put_more old one (at + root_place) a b (at + first_tree_place) behind put_one in
+    put_three ∙ put_more old two (at + root_place) (a ++ b) (bytes_of 4 (second_tree def)) (at + second_tree_place) last s2 ∙ ap (put old (at + root_place)) (append_assoc a b (bytes_of 4 (second_tree def)))
 
 pub column_long : (column : Column) → IsName column.name → length (column_field column) ≡ 37
 column_long column is =

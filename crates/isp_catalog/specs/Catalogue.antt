@@ -7,7 +7,7 @@ use Rattle.isp_disk.specs.Moments.{image_of, slice}
 use Rattle.isp_format.specs.Definition.{DefinedColumn, DefinedTable, StartsTable, bigint_kind, definition_page, definition_place, definition_size, geometry_kind, most_tables, varchar_kind}
 use Rattle.isp_format.specs.Empty.{first_fresh}
 use Rattle.isp_format.specs.Ranges.{Contents, page_of}
-use Rattle.isp_format.specs.Rules.{catalogue_rule, space_rule}
+use Rattle.isp_format.specs.Rules.{catalogue_rule, space_number, space_rule}
 use Rattle.isp_plain.specs.declared.value.Column.{Column}
 use Rattle.isp_plain.specs.declared.value.Kind.{Kind}
 use Rattle.isp_plain.specs.declared.value.Kind.TheVariants as kind
@@ -118,7 +118,7 @@ pub record IsBroken (pages : ℕ) (contents : Contents) (tables number : ℕ) : 
 -- page 0 breaks it where it counts more tables than there may be; else the page of the first definition that does
 abbrev pub BreaksRule : ℕ → Contents → ℕ → ℕ → Type 0
 BreaksRule pages contents tables page =
-    (page ≡ 0) × (most_tables < tables) ⊎ (number : ℕ) × (page ≡ definition_page number) × IsBroken pages contents tables number
+    (page ≡ space_number) × (most_tables < tables) ⊎ (number : ℕ) × (page ≡ definition_page number) × IsBroken pages contents tables number
 
 -- the fault names no damaged page, or this rule with such a page
 abbrev pub NamesBroken : ℕ → Contents → ℕ → Fault → Type 0

@@ -23,9 +23,13 @@ Finds (Ok x) read = read ≡ Some x
 Finds (Err Broken) read = read ≡ None
 Finds (Err Lacking) read = Unit {0}
 
+-- where a name stands in its field, behind its length
+abbrev pub name_place : ℕ
+name_place = 1
+
 -- the name in the field at that place
 abbrev pub name_in : List ℕ → ℕ → Option (List ℕ)
-name_in bytes at = if nat_le 1 (slice_index bytes at) && nat_le (slice_index bytes at) most_name then Some (slice (image_of bytes) (at + 1) (slice_index bytes at)) else None
+name_in bytes at = if nat_le 1 (slice_index bytes at) && nat_le (slice_index bytes at) most_name then Some (slice (image_of bytes) (at + name_place) (slice_index bytes at)) else None
 
 abbrev pub varchar_in : ℕ → Option Kind
 varchar_in size = if is_size size then Some (kind.VarChar size) else None

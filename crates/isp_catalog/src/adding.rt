@@ -3,6 +3,7 @@ ghost use Rattle.std.specs.Prelude.{◌≡◌, ◌+◌, ◌≤◌, ◌<◌, ◌|
 ghost use Rattle.isp_format.specs.Definition.{definition_page};
 ghost use Rattle.isp_format.specs.Header.{header_of};
 ghost use Rattle.isp_format.specs.Ranges.{page_of};
+ghost use Rattle.isp_format.specs.Rules.{space_number};
 ghost use Rattle.isp_page.specs.Calls.{Continues};
 ghost use Rattle.isp_page.specs.State.{HasRoom, most_changed};
 ghost use Rattle.isp_page.specs.Steps.{IsNoDamage};
@@ -59,9 +60,9 @@ pub fn add<P: Pages>(pages: &mut P, t: &TableDef) -> Result<(), StoreFault>
     requires place { HasPlace (P.shape pages.old).pages t.now }
     ensures kept { Continues P.Pages pages.old pages.new result }
     ensures others { P.tells → OnOk result (KeepsPages
-        (λ q. is_page 0 q || is_page (definition_page t.now.number) q)
+        (λ q. is_page space_number q || is_page (definition_page t.now.number) q)
         (P.contents pages.old) (P.contents pages.new)) }
-    ensures grown { OnOk result (Grows (0 ∷ definition_page t.now.number ∷ [])
+    ensures grown { OnOk result (Grows (space_number ∷ definition_page t.now.number ∷ [])
         (P.mini pages.old) (P.mini pages.new)) }
     ensures header { P.tells → OnOk result
         (header_of (page_of (P.contents pages.new) (definition_page t.now.number))

@@ -26,6 +26,9 @@ use std::alloc::Global;
 // How many bytes a VARCHAR column has at most.
 const MOST_SIZE: u16 = 500;
 
+/// Where a name stands in its field, behind its length.
+pub(crate) const NAME_PLACE: usize = 1;
+
 // So many bytes of the page from `at` on.
 fn piece(p: &Page, at: usize, size: usize) -> &[u8]
     requires inside { at + size ≤ page_bytes }
@@ -59,7 +62,7 @@ fn name_at(alloc: Global, p: &Page, at: usize) -> Result<Name, Unread>
     if !is_length(length) {
         return Err(Unread::Broken);
     }
-    let name = Bytes::from_slice(alloc, piece(p, at + 1, usize::from(length)))?;
+    let name = Bytes::from_slice(alloc, piece(p, at + NAME_PLACE, usize::from(length)))?;
     Ok(name)
 }
 

@@ -2,16 +2,18 @@
 ghost use Rattle.std.specs.Prelude.{◌≡◌, ◌+◌, ◌*◌, ◌≤◌, ◌∷◌, ◌++◌, [], ℕ, All, length};
 ghost use Rattle.std.specs.List.{flat_map};
 ghost use Rattle.isp_disk.specs.Moments.{image_of, put};
-ghost use Rattle.isp_format.specs.Definition.{column_size, flag_byte, most_columns, most_definition, most_name, name_field_size};
+ghost use Rattle.isp_format.specs.Definition.{column_size, columns_place, flag_byte, most_columns, most_definition, most_name, name_field_size, root_place};
 ghost use Rattle.isp_format.specs.Numbers.{bytes_of};
 ghost use Rattle.isp_format.specs.Ranges.{page_bytes};
 ghost use Rattle.isp_catalog.specs.Limits.{IsName};
 ghost use Rattle.isp_catalog.specs.Writing.{HasRoots, column_field, kind_byte, kind_size, name_field, roots_field, table_bytes};
 
+use crate::reading::NAME_PLACE;
 use crate::table::TableDef;
 use isp_format::definition_fields::{
     BIGINT_KIND, COLUMN_BYTES, COLUMN_COUNT_PLACE, COLUMN_FLAG_PLACE, COLUMN_KIND_PLACE,
-    COLUMN_SIZE_PLACE, COLUMNS_PLACE, GEOMETRY_KIND, MOST_NAME, ROOT_PLACE, VARCHAR_KIND,
+    COLUMN_SIZE_PLACE, COLUMNS_PLACE, FIRST_TREE_PLACE, GEOMETRY_KIND, MOST_NAME, ROOT_PLACE,
+    SECOND_TREE_PLACE, VARCHAR_KIND,
 };
 use isp_format::{Page, put_bytes, put_u16, put_u32};
 use isp_plain::{Column, Kind};
@@ -36,8 +38,8 @@ fn put_name(p: &mut Page, at: usize, name: &[u8])
 {
     let zeros = [0; MOST_NAME];
     put_byte(p, at, name.len() as u8);
-    put_bytes(p, at + 1, name);
-    put_bytes(p, at + 1 + name.len(), &zeros[name.len()..]);
+    put_bytes(p, at + NAME_PLACE, name);
+    put_bytes(p, at + NAME_PLACE + name.len(), &zeros[name.len()..]);
 }
 
 fn kind_byte(kind: Kind) -> u8
@@ -94,18 +96,18 @@ fn put_columns(p: &mut Page, at: usize, columns: &[Column])
     }
 }
 
-// Puts the roots of a definition.
+// Puts the roots of the definition that stands at that place.
 fn put_roots(p: &mut Page, at: usize, t: &TableDef)
-    requires inside { at + 12 ≤ page_bytes }
+    requires inside { at + columns_place ≤ page_bytes }
     ensures put { (place : ℕ) → image_of p.new.bytes place
-        ≡ put (image_of p.old.bytes) at (roots_field t.now) place }
+        ≡ put (image_of p.old.bytes) (at + root_place) (roots_field t.now) place }
     ensures size { length p.new.bytes ≡ length p.old.bytes }
     ensures roots { HasRoots t.now }
 {
     let trees = t.trees;
-    put_u32(p, at, t.root.0);
-    put_u32(p, at + 4, trees[0].0);
-    put_u32(p, at + 8, trees[1].0);
+    put_u32(p, at + ROOT_PLACE, t.root.0);
+    put_u32(p, at + FIRST_TREE_PLACE, trees[0].0);
+    put_u32(p, at + SECOND_TREE_PLACE, trees[1].0);
 }
 
 /// Puts a definition into its place.
@@ -121,6 +123,6 @@ pub(crate) fn put_table(p: &mut Page, at: usize, t: &TableDef)
 {
     put_name(p, at, t.name.as_slice());
     put_byte(p, at + COLUMN_COUNT_PLACE, t.schema.columns.len() as u8);
-    put_roots(p, at + ROOT_PLACE, t);
+    put_roots(p, at, t);
     put_columns(p, at + COLUMNS_PLACE, t.schema.columns.as_slice());
 }

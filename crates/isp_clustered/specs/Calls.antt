@@ -1,6 +1,6 @@
 -- What the calls of a tree ask of a store of pages, and what they leave alone; at a bound `P: Pages`, cited as
 -- `ReadsTree P.Pages root.0 pages.old pages.new result`.
-use Rattle.std.specs.Prelude.{◌≡◌, ℕ, ◌<◌, ◌||◌, ℤ, List, [], Result, IfErr, IfOk, OnOk, ⊤}
+use Rattle.std.specs.Prelude.{◌≡◌, ℕ, ◌<◌, ◌||◌, ℤ, List, [], Result, Err, IfErr, IfOk, OnOk, ⊤}
 use Rattle.isp_base.specs.declared.page_no.PageNo.{PageNo}
 use Rattle.isp_format.specs.Header.{header_of}
 use Rattle.isp_format.specs.Leaf.{Stored}
@@ -54,6 +54,11 @@ NamesAnyOrLacks pages (Store Print) = ⊤
 NamesAnyOrLacks pages (Store (Damaged page rule)) = (page < pages) × (rule ≡ tree_rule)
 NamesAnyOrLacks pages Memory = ⊤
 
+-- that holds of a call that fails for want of memory
+abbrev pub Lacks : {T : Type 0} → Result T Fault → Type 0 → Type 0
+Lacks (Err Memory) holds = holds
+Lacks _ holds = Unit {0}
+
 -- A call that reads a tree on that page, which says that it is one where the call answers; and names pages of the file where
 -- they aren't what they should be.
 pub record ReadsTree {S T : Type 0} (g : Ghosts S) (root : ℕ) (old new : S) (result : Result T StoreFault) : Type 0 where
@@ -63,10 +68,11 @@ pub record ReadsTree {S T : Type 0} (g : Ghosts S) (root : ℕ) (old new : S) (r
   pub says : g.tells → OnOk result (SaysTree root (header_of (page_of (g.contents old) root)))
   pub names : IfErr result (NamesAny (g.shape old).pages)
 
--- the same of one that takes memory
+-- the same of one that takes memory, for want of which the contents stay
 pub record ReadsTreeOrLacks {S T : Type 0} (g : Ghosts S) (root : ℕ) (old new : S) (result : Result T Fault) : Type 0 where
   pub kept : ContinuesOrLacks g old new result
   pub contents : g.tells → OnOk result (g.contents new ≡ g.contents old)
+  pub lacks : g.tells → Lacks result (g.contents new ≡ g.contents old)
   pub mini : OnOk result (g.mini new ≡ g.mini old)
   pub says : g.tells → OnOk result (SaysTree root (header_of (page_of (g.contents old) root)))
   pub names : IfErr result (NamesAnyOrLacks (g.shape old).pages)
@@ -82,6 +88,7 @@ pub record CreatesTree {S : Type 0} (g : Ghosts S) (old new : S) (result : Resul
 pub record ReadsLeaf {S : Type 0} (g : Ghosts S) (old new : S) (result : Result Leaf Fault) : Type 0 where
   pub kept : ContinuesOrLacks g old new result
   pub contents : g.tells → OnOk result (g.contents new ≡ g.contents old)
+  pub lacks : g.tells → Lacks result (g.contents new ≡ g.contents old)
   pub mini : OnOk result (g.mini new ≡ g.mini old)
   pub says : g.tells → IfOk result (λ leaf. SaysTree leaf.page.0 (header_of (page_of (g.contents old) leaf.page.0)))
   pub inside : IfOk result (λ leaf. leaf.page.0 < (g.shape old).pages)

@@ -19,21 +19,9 @@ use Rattle.isp_plain.specs.declared.value.Schema.{Schema}
 use Rattle.isp_plain.specs.declared.value.Value.{Value}
 use Rattle.isp_plain.specs.declared.value.Value.TheVariants.{Int, Text, Geo}
 use Rattle.isp_row.specs.RowSpelling.{IsRowOf, StartsWith}
-use Rattle.isp_scan.specs.Scanning.{AreKeptAs, AreRowsOf, IsKeptAs, held_of, held_rows}
+use Rattle.isp_scan.specs.Scanning.{AreKeptAs, IsKeptAs, held_rows}
 
 -- ---- one row
-
-pub held_marked : (w : Condition) (r : FileRow) → r.stored.marked ≡ true → held_rows w (r ∷ []) ≡ []
-held_marked w r marked = ap (λ (b : Bool). values_of (filter (λ (e : ℤ × Row). holds w e.1) (if b then [] else (r.stored.key, r.row) ∷ []))) marked
-
-one_held : (w : Condition) (key : ℤ) (row : Row) (b : Bool) → values_of (if b then (key, row) ∷ [] else []) ≡ (if b then row ∷ [] else [])
-one_held w key row true = refl
-one_held w key row false = refl
-
-pub held_shown : (w : Condition) (r : FileRow) → r.stored.marked ≡ false → held_rows w (r ∷ []) ≡ held_of w r.row
-held_shown w r shown_is =
-    ap (λ (b : Bool). values_of (filter (λ (e : ℤ × Row). holds w e.1) (if b then [] else (r.stored.key, r.row) ∷ []))) shown_is
-    ∙ one_held w r.stored.key r.row (holds w r.row)
 
 pub held_more : (w : Condition) (r : FileRow) (rows : List FileRow) → held_rows w (r ∷ rows) ≡ held_rows w (r ∷ []) ++ held_rows w rows
 held_more w r rows = by r.stored.marked
@@ -59,22 +47,7 @@ starts_own key (Geo form ∷ values) starts = starts
 pub own_key : (schema : Schema) (key : ℤ) (row : Row) → IsRowOf schema key row → IsRowOf schema (key_of row) row
 own_key schema key row is = record { values = is.values; first = starts_own key row.values is.first }
 
-rows_both : (schema : Schema) (xs ys : List Row) → AreRowsOf schema xs → AreRowsOf schema ys → AreRowsOf schema (xs ++ ys)
-rows_both schema [] ys first second = second
-rows_both schema (x ∷ xs) ys first second = (first.0, rows_both schema xs ys first.1 second)
-
-held_is : (schema : Schema) (row : Row) (b : Bool) → IsRowOf schema (key_of row) row → AreRowsOf schema (if b then row ∷ [] else [])
-held_is schema row true is = (is, tt)
-held_is schema row false is = tt
-
-pub rows_with : (schema : Schema) (w : Condition) (old new : List Row) (row : Row) → new ≡ old ++ held_of w row → AreRowsOf schema old → IsRowOf schema (key_of row) row → AreRowsOf schema new
-rows_with schema w old new row is rows one = subst (AreRowsOf schema) (sym is) (rows_both schema old (held_of w row) rows (held_is schema row (holds w row) one))
-
 -- ---- the leaf
-
-pub nothing_behind : (xs : List Row) → xs ++ [] ≡ xs
-nothing_behind [] = refl
-nothing_behind (x ∷ xs) = ap (λ (ys : List Row). x ∷ ys) (nothing_behind xs)
 
 joins : (xs ys zs : List Row) → (xs ++ ys) ++ zs ≡ xs ++ (ys ++ zs)
 joins [] ys zs = refl

@@ -1,83 +1,44 @@
--- A row that is looked up by the key that its condition names: the condition holds of no other.
-use Rattle.std.proofs.Common.{◌≡◌, ℤ, Bool, true, false, List, [], ◌∷◌, ◌++◌, map, Option, Some, None, refl, sym, ◌∙◌, ap, subst, arith, if◌then◌else◌}
+-- A row that is looked up by the key that a condition names: the condition holds of no other.
+use Rattle.std.proofs.Common.{◌≡◌, ℤ, Bool, true, false, List, [], ◌∷◌, map, Option, Some, None, refl, sym, ◌∙◌, ap, subst, arith, if◌then◌else◌}
 use Rattle.std.specs.Prelude.{int_lt}
 use Rattle.std.specs.List.{AllByRecursion}
 use Rattle.std.specs.Option.{option_map}
 use Rattle.std.specs.Ordering.{int_eq}
 use Rattle.std.proofs.lemmas.Int.{ints}
 use Rattle.isp_catalog.specs.declared.table.TableDef.{TableDef}
+use Rattle.isp_changes.specs.Changes.{found_at, is_held, piece_of}
+use Rattle.isp_changes.specs.Stages.{HasHeld}
+use Rattle.isp_changes.proofs.StageProofs.{reads_by_key}
 use Rattle.isp_clustered.specs.Cells.{kept_of}
 use Rattle.isp_clustered.specs.Leaves.{kept_row_of}
 use Rattle.isp_clustered.specs.Rows.{find}
 use Rattle.isp_clustered.specs.Trees.{rows_of}
 use Rattle.isp_clustered.specs.declared.kept.Kept.{Kept}
 use Rattle.isp_clustered.specs.declared.kept.KeptRow.{KeptRow}
-use Rattle.isp_file_laws.proofs.KeptLaws as file
-use Rattle.isp_image.specs.Databases.{FileRow, FileTable, row_key}
+use Rattle.isp_image.specs.Databases.{FileRow, FileTable, row_key, seen, shown}
 use Rattle.isp_image.specs.Files.{IsFileRow}
-use Rattle.isp_image.specs.Keyed.{IsBelowEach, RisesBy, found, joined}
+use Rattle.isp_image.specs.Keyed.{found, joined}
 use Rattle.isp_image.proofs.FileLaws.{stored_of, table_rises}
-use Rattle.isp_image.proofs.KeyedLaws.{below_rest}
+use Rattle.isp_image.proofs.SeenLaws.{shown_rises}
+use Rattle.isp_image.proofs.ShownLaws.{rising_of, row_at_shown}
 use Rattle.isp_image.proofs.StoredLaws.{find_row}
 use Rattle.isp_page.specs.declared.pages.Pages.{Ghosts}
-use Rattle.isp_paths.specs.Reaching.{HasKey, HoldsOf, Reaches}
-use Rattle.isp_paths.specs.Paths.{path_by}
+use Rattle.isp_paths.specs.Paths.{path_by, path_of}
+use Rattle.isp_paths.specs.Reaching.{Reaches}
 use Rattle.isp_paths.specs.declared.access.Path.{Path}
-use Rattle.isp_paths.specs.declared.access.Path.TheVariants.{Key}
+use Rattle.isp_paths.specs.declared.access.Path.TheVariants.{Key, Tree, Scan}
 use Rattle.isp_paths.proofs.ReachLaws.{key_is, path_reaches}
 use Rattle.isp_plain.specs.Conditions.{holds}
+use Rattle.isp_plain.specs.Values.{key_of}
 use Rattle.isp_plain.specs.declared.statement.Condition.{Condition}
+use Rattle.isp_plain.specs.declared.statement.Statement.{Statement}
+use Rattle.isp_plain.specs.declared.statement.Statement.TheVariants.{Create, Insert, Select, Update, Delete, Begin, Commit, Rollback, Refused}
 use Rattle.isp_plain.specs.declared.value.Column.{Column}
 use Rattle.isp_plain.specs.declared.value.Row.{Row}
 use Rattle.isp_plain.specs.declared.value.Schema.{Schema}
-use Rattle.isp_scan.specs.Scanning.{AreKeptAs, HasFileTable, held_of, held_rows}
-use Rattle.isp_scan.proofs.HeldLaws.{held_marked, held_more, held_shown, nothing_behind}
-
--- ---- no other row
-
-pub not_held : (schema : Schema) (w : Condition) (key : ℤ) (r : FileRow) → IsFileRow schema r → HoldsOf w (HasKey key) → int_eq r.stored.key key ≡ false → held_rows w (r ∷ []) ≡ []
-not_held schema w key r is reach apart = by r.stored.marked refl
-  where
-    none : holds w r.row ≡ true → ⊥
-    none h =
-        let own = file.own_key schema r.stored.key r.row is.spells.is_row in
-        let named = key_is key r.row (reach r.row h) in
-        let same : r.stored.key ≡ key = sym own ∙ named in
-        let there : int_eq r.stored.key key ≡ true = grind (arith, ints, same) in
-        let no : true ≡ false = sym there ∙ apart in cc
-
-    held : (b : Bool) → holds w r.row ≡ b → held_of w r.row ≡ []
-    held true h = absurd (none h)
-    held false h = ap (λ (b : Bool). if b then r.row ∷ [] else []) h
-
-    by : (m : Bool) → r.stored.marked ≡ m → held_rows w (r ∷ []) ≡ []
-    by true marked = held_marked w r marked
-    by false shown_is = held_shown w r shown_is ∙ held (holds w r.row) refl
-
-held_none : (schema : Schema) (w : Condition) (key : ℤ) (rows : List FileRow) → AllByRecursion (IsFileRow schema) rows → HoldsOf w (HasKey key) → IsBelowEach row_key key rows → held_rows w rows ≡ []
-held_none schema w key [] each reach below = refl
-held_none schema w key (r ∷ rows) each reach below =
-    let less = below.0 in
-    let apart : int_eq r.stored.key key ≡ false = grind (arith, ints, less) in
-    held_more w r rows ∙ (λ i. not_held schema w key r each.0 reach apart i ++ held_none schema w key rows each.1 reach below.1 i)
-
--- the rows of which it holds are those of the row that stands there
-pub held_at_key : (schema : Schema) (w : Condition) (key : ℤ) (rows : List FileRow) → AllByRecursion (IsFileRow schema) rows → RisesBy row_key rows → HoldsOf w (HasKey key)
-    → held_rows w (joined (found row_key key rows) []) ≡ held_rows w rows
-held_at_key schema w key [] each rises reach = refl
-held_at_key schema w key (r ∷ rows) each rises reach = by (int_lt r.stored.key key) refl (int_eq r.stored.key key) refl (held_at_key schema w key rows each.1 rises.1 reach)
-  where
-    none : int_lt r.stored.key key ≡ false → held_rows w rows ≡ []
-    none far = held_none schema w key rows each.1 reach (below_rest row_key key r rows rises far)
-
-    apart : int_lt r.stored.key key ≡ true → int_eq r.stored.key key ≡ false
-    apart less = grind (arith, ints, less)
-
-    by : (b : Bool) → int_lt r.stored.key key ≡ b → (c : Bool) → int_eq r.stored.key key ≡ c → held_rows w (joined (found row_key key rows) []) ≡ held_rows w rows
-        → held_rows w (joined (if b then found row_key key rows else (if c then Some r else None)) []) ≡ held_rows w (r ∷ rows)
-    by true less c at rest = rest ∙ sym (held_more w r rows ∙ ap (λ (l : List Row). l ++ held_rows w rows) (not_held schema w key r each.0 reach (apart less)))
-    by false far true at rest = sym (held_more w r rows ∙ ap (λ (l : List Row). held_rows w (r ∷ []) ++ l) (none far) ∙ nothing_behind (held_rows w (r ∷ [])))
-    by false far false at rest = sym (held_more w r rows ∙ (λ i. not_held schema w key r each.0 reach at i ++ none far i))
+use Rattle.isp_scan.specs.Keys.{key_of_path, named_key}
+use Rattle.isp_scan.specs.Scanning.{AreKeptAs, HasFileTable}
+use Rattle.isp_scan.proofs.RowLaws.{are_keyed}
 
 -- ---- the row that is read
 
@@ -118,11 +79,46 @@ kept_as g now def t key got has is = record {
   spell = subst (λ (d : TableDef). AllByRecursion (IsFileRow d.schema) (joined (found row_key key t.rows) [])) has.is (found_each t.def.schema key t.rows has.table.each);
 }
 
--- what is held of that row is what is held of the table
-pub held_found : {S : Type 0} (g : Ghosts S) (now : S) (def : TableDef) (t : FileTable) (w : Condition) (key : ℤ) → HasFileTable g now def t → HoldsOf w (HasKey key)
-    → held_rows w (joined (found row_key key t.rows) []) ≡ held_rows w t.rows
-held_found g now def t w key has reach = held_at_key t.def.schema w key t.rows has.table.each (table_rises (g.shape now).pages (g.contents now) def.number t has.table) reach
+-- it is the row that is found there among those that are shown
+shown_one : (key : ℤ) (o : Option FileRow) → ((r : FileRow) → o ≡ Some r → r.stored.key ≡ key) → shown (joined o []) ≡ piece_of key (seen o)
+shown_one key None at = refl
+shown_one key (Some r) at = by r.stored.marked
+  where
+    by : (b : Bool) → (if b then [] else (r.stored.key, r.row) ∷ []) ≡ piece_of key (if b then None else Some r.row)
+    by true = refl
+    by false = ap (λ (k : ℤ). piece_of k (Some r.row)) (at r refl)
 
--- the path that names a key reaches the rows of that key alone
-pub path_key : (columns : List Column) (w : Condition) (path : Path) (key : ℤ) → path ≡ path_by columns w.atoms → path ≡ Key key → HoldsOf w (HasKey key)
-path_key columns w path key is named = subst (λ (p : Path). Reaches columns w p) (sym is ∙ named) (path_reaches columns w)
+pub found_shown : {S : Type 0} (g : Ghosts S) (now : S) (def : TableDef) (t : FileTable) (key : ℤ) → HasFileTable g now def t → shown (joined (found row_key key t.rows) []) ≡ found_at (shown t.rows) key
+found_shown g now def t key has =
+    shown_one key (found row_key key t.rows) (found_there key t.rows)
+    ∙ ap (piece_of key) (sym (row_at_shown key t.rows (table_rises (g.shape now).pages (g.contents now) def.number t has.table)))
+
+-- ---- no other row
+
+none_key : {A : Type 0} (key : ℤ) → None ≡ Some key → A
+none_key key is = cc
+
+some_key : (a b : ℤ) → Some a ≡ Some b → a ≡ b
+some_key a b is = cc
+
+only_there : (columns : List Column) (w : Condition) (path : Path) (key : ℤ) (row : Row) → Reaches columns w path → key_of_path path ≡ Some key → holds w row ≡ true → key_of row ≡ key
+only_there columns w (Key there) key row reaches is held = key_is there row (reaches row held) ∙ some_key there key is
+only_there columns w (Tree column p) key row reaches is held = none_key key is
+only_there columns w Scan key row reaches is held = none_key key is
+
+only_key : (schema : Schema) (s : Statement) (key : ℤ) (row : Row) → key_of_path (path_of schema s) ≡ Some key → is_held s row ≡ true → key_of row ≡ key
+only_key schema (Create name others) key row is held = none_key key is
+only_key schema (Insert name rows) key row is held = none_key key is
+only_key schema (Select name columns w) key row is held = only_there schema.columns w (path_by schema.columns w.atoms) key row (path_reaches schema.columns w) is held
+only_key schema (Update name sets w) key row is held = only_there schema.columns w (path_by schema.columns w.atoms) key row (path_reaches schema.columns w) is held
+only_key schema (Delete name w) key row is held = only_there schema.columns w (path_by schema.columns w.atoms) key row (path_reaches schema.columns w) is held
+only_key schema Begin key row is held = none_key key is
+only_key schema Commit key row is held = none_key key is
+only_key schema Rollback key row is held = none_key key is
+only_key schema (Refused refusal) key row is held = none_key key is
+
+-- where the statement names a key, what holds of the rows found there is what holds of the table
+pub held_by_key : {S : Type 0} (g : Ghosts S) (now : S) (def : TableDef) (t : FileTable) (s : Statement) (key : ℤ) → HasFileTable g now def t → named_key def s ≡ Some key → HasHeld s (shown t.rows) (found_at (shown t.rows) key ∷ [])
+held_by_key g now def t s key has named =
+    reads_by_key s (shown t.rows) key (rising_of (shown t.rows) (shown_rises t.rows (table_rises (g.shape now).pages (g.contents now) def.number t has.table)))
+    (are_keyed g now def t has) (λ row held. only_key def.schema s key row named held)

@@ -1,16 +1,17 @@
--- The leaves of a table, one after another: what is held of the rows so far, with what is held of those ahead, is what is held of
--- all rows.
-use Rattle.std.proofs.Common.{◌≡◌, ℕ, ◌+◌, ◌<◌, ◌≤◌, ◌==◌, Bool, true, false, ◌||◌, cond, List, [], ◌∷◌, ◌++◌, length, map, Option, Some, None, refl, sym, ◌∙◌, ap, subst, arith, if◌then◌else◌}
-use Rattle.std.specs.Prelude.{is_some, nat_eq}
+-- The rows of a table, leaf by leaf: joined they are all that are shown; and the leaf behind a page has the first of the pieces that
+-- are left there.
+use Rattle.std.proofs.Common.{◌≡◌, ℕ, zero, suc, ◌+◌, ◌<◌, ◌≤◌, ◌==◌, ℤ, Bool, true, false, ◌||◌, cond, List, [], ◌∷◌, ◌++◌, drop, length, map, take, Option, Some, None, refl, sym, ◌∙◌, ap, subst, arith, if◌then◌else◌}
+use Rattle.std.specs.Prelude.{nat_eq}
 use Rattle.std.specs.List.{AllByRecursion, IsDistinct, list_any}
 use Rattle.std.specs.Option.{option_map}
 use Rattle.std.proofs.lemmas.Bool.Decides.{nat_tests}
-use Rattle.std.proofs.lemmas.List.{append-nil, append_assoc, length-append, length-map}
+use Rattle.std.proofs.lemmas.List.{append-nil, append_assoc, length-map, take-append-drop}
 use Rattle.std.proofs.lemmas.Map.Keys.{IsDistinct-cons}
 use Rattle.std.proofs.lemmas.Map.Steps.{length-le_from_distinct_below}
 use Rattle.isp_base.specs.Lists.{times}
 use Rattle.isp_base.specs.declared.page_no.PageNo.{PageNo}
 use Rattle.isp_catalog.specs.declared.table.TableDef.{TableDef}
+use Rattle.isp_changes.specs.Changes.{joined}
 use Rattle.isp_clustered.specs.Leaves.{IsLeafOf, kept_row_of, kept_rows_of}
 use Rattle.isp_clustered.specs.Trees.{IsTree, Tree, first_leaf, leaf_after, leaf_behind, page_in}
 use Rattle.isp_clustered.specs.declared.kept.KeptRow.{KeptRow}
@@ -18,79 +19,59 @@ use Rattle.isp_clustered.specs.declared.kept.Leaf.{Leaf}
 use Rattle.isp_format.specs.Inner.{Name}
 use Rattle.isp_format.specs.Leaf.{Stored}
 use Rattle.isp_format.specs.Ranges.{Contents}
-use Rattle.isp_image.specs.Databases.{FileRow, FileTable}
+use Rattle.isp_image.specs.Databases.{FileRow, FileTable, shown}
 use Rattle.isp_image.specs.Files.{IsFileRow}
 use Rattle.isp_image.proofs.FileLaws.{stored_of}
 use Rattle.isp_levels.specs.Inners.{number_of}
-use Rattle.isp_levels.specs.Levels.{AllBegin, ArePages, BeginsAt, InnerNode, IsTreeOf, Lead, LevelsBegin, TreeLeaf, all_rows, entries_of, leaf_names, leaf_pages, least_key, level_pages, names_of}
-use Rattle.isp_levels.proofs.PageLaws.{leaf_alone, times_append, times_itself}
+use Rattle.isp_levels.specs.Levels.{AllBegin, ArePages, BeginsAt, InnerNode, Lead, LevelsBegin, TreeLeaf, all_rows, entries_of, leaf_names, leaf_pages, least_key, level_pages, names_of}
+use Rattle.isp_levels.proofs.PageLaws.{times_append, times_itself}
 use Rattle.isp_levels.proofs.WayLaws.{pages_first}
-use Rattle.isp_page.specs.State.{FileShape}
 use Rattle.isp_page.specs.declared.pages.Pages.{Ghosts}
-use Rattle.isp_plain.specs.declared.statement.Condition.{Condition}
 use Rattle.isp_plain.specs.declared.value.Row.{Row}
 use Rattle.isp_plain.specs.declared.value.Schema.{Schema}
-use Rattle.isp_scan.specs.Scanning.{AreKeptAs, HasFileTable, HasLeafRows, held_rows}
-use Rattle.isp_scan.proofs.HeldLaws.{held_more}
+use Rattle.isp_scan.specs.Leaves.{HasPiece, IsBehind, IsNext, Piece, leaf_pieces, pieces_after, pieces_behind, pieces_of}
+use Rattle.isp_scan.specs.Scanning.{AreKeptAs, HasFileTable}
 use Rattle.isp_scan.proofs.TakenLaws.{tree_of}
-
--- ---- a leaf as it is read
-
-kept_twice : (rows : List FileRow) → kept_rows_of (map stored_of rows) ≡ map (λ (r : FileRow). kept_row_of r.stored) rows
-kept_twice [] = refl
-kept_twice (r ∷ rows) = ap (λ (l : List KeptRow). kept_row_of r.stored ∷ l) (kept_twice rows)
-
-pub leaf_kept : {S : Type 0} (g : Ghosts S) (now : S) (def : TableDef) (after : Option ℕ) (tree : Tree) (leaf : TreeLeaf) (there : List FileRow) (answer : Leaf) (slice : List KeptRow) → HasLeafRows g now def after tree leaf there → IsLeafOf tree leaf answer → slice ≡ answer.rows
-    → AreKeptAs def.schema slice there
-leaf_kept g now def after tree leaf there answer slice has is read = record { are = read ∙ is.rows ∙ ap kept_rows_of has.stored ∙ kept_twice there; spell = has.spell }
-
--- its page, if another one stands to its right
-pub goes_on : (next : Option PageNo) (page : PageNo) (tree : Tree) (leaf : TreeLeaf) → page.0 ≡ leaf.page → number_of next ≡ page_in (leaf_after tree (Some leaf.page))
-    → number_of (option_map (λ (n : PageNo). page) next) ≡ option_map (λ (n : TreeLeaf). leaf.page) (leaf_after tree (Some leaf.page))
-goes_on next page tree leaf at is = by next (leaf_after tree (Some leaf.page)) is
-  where
-    by : (next : Option PageNo) (o : Option TreeLeaf) → number_of next ≡ page_in o → number_of (option_map (λ (n : PageNo). page) next) ≡ option_map (λ (n : TreeLeaf). leaf.page) o
-    by None None is = refl
-    by None (Some n) is = absurd (let no : None ≡ Some n.page = is in cc)
-    by (Some n) None is = absurd (let no : Some n.0 ≡ None = is in cc)
-    by (Some n) (Some m) is = ap (λ (p : ℕ). Some p) at
-
-pub some_number : (o : Option PageNo) → is_some (number_of o) ≡ is_some o
-some_number None = refl
-some_number (Some page) = refl
 
 -- ---- rows of a file, parted as what is stored
 
-pub record Parted (xs ys : List Stored) (rows : List FileRow) : Type 0 where
-  pub here : List FileRow
-  pub later : List FileRow
-  pub are : rows ≡ here ++ later
-  pub first : xs ≡ map stored_of here
-  pub second : ys ≡ map stored_of later
-
-parted : (xs ys : List Stored) (rows : List FileRow) → xs ++ ys ≡ map stored_of rows → Parted xs ys rows
-parted [] ys rows is = record { here = []; later = rows; are = refl; first = refl; second = is }
-parted (x ∷ xs) ys [] is = absurd (let no : x ∷ (xs ++ ys) ≡ [] = is in cc)
-parted (x ∷ xs) ys (r ∷ rows) is =
+stored_first : (xs ys : List Stored) (rows : List FileRow) → xs ++ ys ≡ map stored_of rows → xs ≡ map stored_of (take (length xs) rows)
+stored_first [] ys rows is = refl
+stored_first (x ∷ xs) ys [] is = absurd (let no : x ∷ (xs ++ ys) ≡ [] = is in cc)
+stored_first (x ∷ xs) ys (r ∷ rows) is =
     let one : x ≡ r.stored = cc in
-    let p = parted xs ys rows (let rest : xs ++ ys ≡ map stored_of rows = cc in rest) in
-    record { here = r ∷ p.here; later = p.later; are = ap (λ (l : List FileRow). r ∷ l) p.are; first = λ i. one i ∷ p.first i; second = p.second }
+    let rest : xs ++ ys ≡ map stored_of rows = cc in
+    (λ i. one i ∷ stored_first xs ys rows rest i)
 
-all_first : (schema : Schema) (xs ys : List FileRow) → AllByRecursion (IsFileRow schema) (xs ++ ys) → AllByRecursion (IsFileRow schema) xs
-all_first schema [] ys all = tt
-all_first schema (x ∷ xs) ys all = (all.0, all_first schema xs ys all.1)
+stored_later : (xs ys : List Stored) (rows : List FileRow) → xs ++ ys ≡ map stored_of rows → ys ≡ map stored_of (drop (length xs) rows)
+stored_later [] ys rows is = is
+stored_later (x ∷ xs) ys [] is = absurd (let no : x ∷ (xs ++ ys) ≡ [] = is in cc)
+stored_later (x ∷ xs) ys (r ∷ rows) is = stored_later xs ys rows (let rest : xs ++ ys ≡ map stored_of rows = cc in rest)
 
-all_second : (schema : Schema) (xs ys : List FileRow) → AllByRecursion (IsFileRow schema) (xs ++ ys) → AllByRecursion (IsFileRow schema) ys
-all_second schema [] ys all = all
-all_second schema (x ∷ xs) ys all = all_second schema xs ys all.1
+all_first : {X : Type 0} (P : X → Type 0) (n : ℕ) (xs : List X) → AllByRecursion P xs → AllByRecursion P (take n xs)
+all_first P zero xs all = tt
+all_first P (suc n) [] all = tt
+all_first P (suc n) (x ∷ xs) all = (all.0, all_first P n xs all.1)
 
-held_both : (w : Condition) (xs ys : List FileRow) → held_rows w (xs ++ ys) ≡ held_rows w xs ++ held_rows w ys
-held_both w [] ys = refl
-held_both w (r ∷ xs) ys =
-    held_more w r (xs ++ ys)
-    ∙ ap (λ (l : List Row). held_rows w (r ∷ []) ++ l) (held_both w xs ys)
-    ∙ sym (append_assoc (held_rows w (r ∷ [])) (held_rows w xs) (held_rows w ys))
-    ∙ ap (λ (l : List Row). l ++ held_rows w ys) (sym (held_more w r xs))
+all_later : {X : Type 0} (P : X → Type 0) (n : ℕ) (xs : List X) → AllByRecursion P xs → AllByRecursion P (drop n xs)
+all_later P zero xs all = all
+all_later P (suc n) [] all = tt
+all_later P (suc n) (x ∷ xs) all = all_later P n xs all.1
+
+shown_both : (xs ys : List FileRow) → shown (xs ++ ys) ≡ shown xs ++ shown ys
+shown_both [] ys = refl
+shown_both (r ∷ xs) ys = by r.stored.marked (shown_both xs ys)
+  where
+    by : (b : Bool) → shown (xs ++ ys) ≡ shown xs ++ shown ys → (if b then shown (xs ++ ys) else (r.stored.key, r.row) ∷ shown (xs ++ ys)) ≡ (if b then shown xs else (r.stored.key, r.row) ∷ shown xs) ++ shown ys
+    by true rest = rest
+    by false rest = ap (λ (l : Piece). (r.stored.key, r.row) ∷ l) rest
+
+shown_parts : (n : ℕ) (rows : List FileRow) → shown (take n rows) ++ shown (drop n rows) ≡ shown rows
+shown_parts n rows = sym (shown_both (take n rows) (drop n rows)) ∙ ap shown (take-append-drop n rows)
+
+none_stored : (rows : List FileRow) → [] ≡ map stored_of rows → rows ≡ []
+none_stored [] none = refl
+none_stored (r ∷ rows) none = absurd (let no : [] ≡ r.stored ∷ map stored_of rows = none in cc)
 
 -- ---- a tree's leaves
 
@@ -110,22 +91,6 @@ from_none names (level ∷ levels) leads begin = sym leads.0 ∙ none_of level b
 some_leaf : (root : ℕ) (levels : List (List InnerNode)) (leaves : List TreeLeaf) → Lead ((least_key, root) ∷ []) levels (leaf_names leaves) → LevelsBegin levels → (leaf : TreeLeaf) × (rest : List TreeLeaf) × (leaves ≡ leaf ∷ rest)
 some_leaf root levels [] leads begin = absurd (let no : (least_key, root) ∷ [] ≡ [] = from_none ((least_key, root) ∷ []) levels leads begin in cc)
 some_leaf root levels (leaf ∷ rest) leads begin = (leaf, rest, refl)
-
--- behind a leaf that stands once come those that stand behind it
-behind_one : (before after : List TreeLeaf) (leaf : TreeLeaf) → times leaf.page (leaf_pages before) ≡ 0 → leaf_behind (before ++ (leaf ∷ after)) leaf.page ≡ first_leaf after
-behind_one [] after leaf none = let same : (leaf.page == leaf.page) ≡ true = grind arith in ap (λ (b : Bool). if b then first_leaf after else leaf_behind after leaf.page) same
-behind_one (x ∷ before) after leaf none =
-    ap (λ (b : Bool). if b then first_leaf (before ++ (leaf ∷ after)) else leaf_behind (before ++ (leaf ∷ after)) leaf.page) (by (x.page == leaf.page) none)
-    ∙ behind_one before after leaf (let rest : times leaf.page (leaf_pages (x ∷ before)) ≡ 0 = none in omega (arith, rest))
-  where
-    by : (b : Bool) → cond b 1 0 + times leaf.page (leaf_pages before) ≡ 0 → b ≡ false
-    by false is = refl
-    by true is = absurd (omega (arith, is))
-
-next_is : (pages : ℕ) (contents : Contents) (table root : ℕ) (tree : Tree) (before after : List TreeLeaf) (leaf : TreeLeaf) → IsTree pages contents table root tree → tree.leaves ≡ before ++ (leaf ∷ after) → leaf_after tree (Some leaf.page) ≡ first_leaf after
-next_is pages contents table root tree before after leaf is parts =
-    let was : IsTreeOf pages contents table root is.levels (before ++ (leaf ∷ after)) = subst (λ (l : List TreeLeaf). IsTreeOf pages contents table root is.levels l) parts is.levelled in
-    ap (λ (l : List TreeLeaf). leaf_behind l leaf.page) parts ∙ behind_one before after leaf (leaf_alone is.levels before after leaf was.once).left
 
 -- ---- a tree has no more leaves than the file has pages
 
@@ -166,111 +131,234 @@ few_leaves pages contents table root tree is =
     let few = length-le_from_distinct_below all pages (distinct_once all alone) (λ q there. page_below pages q all are there) in
     subst (λ (n : ℕ). n ≤ pages) (length-map tree.leaves (λ (leaf : TreeLeaf). leaf.page)) few
 
--- ---- so many leaves were read, and this one is next
+-- ---- all pieces
 
-pub record Ahead (t : FileTable) (schema : Schema) (w : Condition) (after : Option ℕ) (turns : ℕ) (rows : List Row) : Type 0 where
-  pub passed : List TreeLeaf
-  pub leaf : TreeLeaf
-  pub rest : List TreeLeaf
-  pub parts : t.tree.leaves ≡ passed ++ (leaf ∷ rest)
-  pub long : length passed ≡ turns
-  pub behind : leaf_after t.tree after ≡ Some leaf
-  -- the rows from there on
-  pub onward : List FileRow
-  pub are : Parted leaf.rows (all_rows rest) onward
-  pub spell : AllByRecursion (IsFileRow schema) onward
-  pub whole : rows ++ held_rows w onward ≡ held_rows w t.rows
+joined_are : (leaves : List TreeLeaf) (rows : List FileRow) → all_rows leaves ≡ map stored_of rows → joined (pieces_of leaves rows) ≡ shown rows
+joined_are [] rows is = sym (ap shown (none_stored rows is))
+joined_are (leaf ∷ leaves) rows is =
+    ap (λ (l : Piece). shown (take (length leaf.rows) rows) ++ l) (joined_are leaves (drop (length leaf.rows) rows) (stored_later leaf.rows (all_rows leaves) rows is))
+    ∙ shown_parts (length leaf.rows) rows
 
--- the first leaf is next
-pub ahead_begins : {S : Type 0} (g : Ghosts S) (now : S) (def : TableDef) (t : FileTable) (w : Condition) → HasFileTable g now def t → Ahead t def.schema w None 0 []
-ahead_begins g now def t w has =
+-- one behind the other they are the rows of the table
+pub pieces_joined : {S : Type 0} (g : Ghosts S) (now : S) (def : TableDef) (t : FileTable) → HasFileTable g now def t → joined (leaf_pieces t) ≡ shown t.rows
+pieces_joined g now def t has = joined_are t.tree.leaves t.rows has.table.rows
+
+as_many : (leaves : List TreeLeaf) (rows : List FileRow) → length (pieces_of leaves rows) ≡ length leaves
+as_many [] rows = refl
+as_many (leaf ∷ leaves) rows = ap suc (as_many leaves (drop (length leaf.rows) rows))
+
+-- they are no more than the file has pages
+pub few_pieces : {S : Type 0} (g : Ghosts S) (now : S) (def : TableDef) (t : FileTable) → HasFileTable g now def t → length (leaf_pieces t) ≤ (g.shape now).pages
+few_pieces g now def t has =
+    let few = few_leaves (g.shape now).pages (g.contents now) def.number def.root.0 t.tree (tree_of g now def t has) in
+    let many = as_many t.tree.leaves t.rows in
+    omega (arith, few, many)
+
+-- a table has a first leaf
+pub some_piece : {S : Type 0} (g : Ghosts S) (now : S) (def : TableDef) (t : FileTable) → HasFileTable g now def t → HasPiece (leaf_pieces t)
+some_piece g now def t has =
     let tree = has.table.tree in
     let some = some_leaf t.def.root.0 tree.levels t.tree.leaves tree.levelled.levelled.leads tree.levelled.levelled.begin in
-    let leaf = some.0 in
-    let rest = some.1 in
     record {
-      passed = [];
-      leaf = leaf;
-      rest = rest;
-      parts = some.2;
-      long = refl;
-      behind = ap first_leaf some.2;
-      onward = t.rows;
-      are = parted leaf.rows (all_rows rest) t.rows (sym (ap all_rows some.2) ∙ has.table.rows);
-      spell = subst (λ (d : TableDef). AllByRecursion (IsFileRow d.schema) t.rows) has.is has.table.each;
-      whole = refl;
+      first = shown (take (length some.0.rows) t.rows);
+      later = pieces_of some.1 (drop (length some.0.rows) t.rows);
+      is = ap (λ (leaves : List TreeLeaf). pieces_of leaves t.rows) some.2;
     }
 
--- its rows, while the pages stay
-pub ahead_leaf : {S : Type 0} (g : Ghosts S) (old now : S) (def : TableDef) (t : FileTable) (w : Condition) (after : Option ℕ) (turns : ℕ) (rows : List Row) → HasFileTable g old def t → g.shape now ≡ g.shape old → g.contents now ≡ g.contents old → (a : Ahead t def.schema w after turns rows)
-    → HasLeafRows g now def after t.tree a.leaf a.are.here
-ahead_leaf g old now def t w after turns rows has shape contents a = record {
-  is_tree = subst (λ (s : FileShape). IsTree s.pages (g.contents now) def.number def.root.0 t.tree) (sym shape) (subst (λ (c : Contents). IsTree (g.shape old).pages c def.number def.root.0 t.tree) (sym contents) (tree_of g old def t has));
-  behind = a.behind;
-  stored = a.are.first;
-  spell = all_first def.schema a.are.here a.are.later (subst (AllByRecursion (IsFileRow def.schema)) a.are.are a.spell);
-}
+-- ---- the pieces that are left
 
--- what is held of it is added
-with_leaf : (t : FileTable) (schema : Schema) (w : Condition) (after : Option ℕ) (turns : ℕ) (rows new : List Row) (a : Ahead t schema w after turns rows) → new ≡ rows ++ held_rows w a.are.here → new ++ held_rows w a.are.later ≡ held_rows w t.rows
-with_leaf t schema w after turns rows new a is =
-    ap (λ (l : List Row). l ++ held_rows w a.are.later) is
-    ∙ append_assoc rows (held_rows w a.are.here) (held_rows w a.are.later)
-    ∙ ap (λ (l : List Row). rows ++ l) (sym (ap (held_rows w) a.are.are ∙ held_both w a.are.here a.are.later))
-    ∙ a.whole
+-- those are the last of these rows
+pub record IsLast (all last : Piece) : Type 0 where
+  pub before : Piece
+  pub is : all ≡ before ++ last
 
-one_passed : (before after : List TreeLeaf) (leaf : TreeLeaf) → before ++ (leaf ∷ after) ≡ (before ++ (leaf ∷ [])) ++ after
-one_passed before after leaf = sym (append_assoc before (leaf ∷ []) after)
-
--- where another leaf stands to its right, that one is next
-pub ahead_on : {S : Type 0} (g : Ghosts S) (now : S) (def : TableDef) (t : FileTable) (w : Condition) (after more : Option ℕ) (turns : ℕ) (rows new : List Row) → HasFileTable g now def t → (a : Ahead t def.schema w after turns rows)
-    → new ≡ rows ++ held_rows w a.are.here → more ≡ option_map (λ (n : TreeLeaf). a.leaf.page) (leaf_after t.tree (Some a.leaf.page)) → is_some more ≡ true → Ahead t def.schema w more (turns + 1) new
-ahead_on g now def t w after more turns rows new has a is more_is some = by a.rest refl
+last_behind : (page : ℕ) (leaves : List TreeLeaf) (rows : List FileRow) → all_rows leaves ≡ map stored_of rows → IsLast (shown rows) (joined (pieces_behind page leaves rows))
+last_behind page [] rows is = record { before = shown rows; is = sym (append-nil (shown rows)) }
+last_behind page (leaf ∷ leaves) rows is = by (leaf.page == page) (last_behind page leaves later stored)
   where
-    after_it : leaf_after t.tree (Some a.leaf.page) ≡ first_leaf a.rest
-    after_it = next_is (g.shape now).pages (g.contents now) def.number def.root.0 t.tree a.passed a.rest a.leaf (tree_of g now def t has) a.parts
+    first : Piece
+    first = shown (take (length leaf.rows) rows)
 
-    by : (rest : List TreeLeaf) → a.rest ≡ rest → Ahead t def.schema w more (turns + 1) new
-    by [] end = let none : more ≡ None = more_is ∙ ap (option_map (λ (n : TreeLeaf). a.leaf.page)) (after_it ∙ ap first_leaf end) in absurd (let no : false ≡ true = sym (ap is_some none) ∙ some in cc)
-    by (next ∷ rest) on =
-        let at : more ≡ Some a.leaf.page = more_is ∙ ap (option_map (λ (n : TreeLeaf). a.leaf.page)) (after_it ∙ ap first_leaf on) in
-        let sum = length-append a.passed (a.leaf ∷ []) in
-        let long = a.long in
-        record {
-          passed = a.passed ++ (a.leaf ∷ []);
-          leaf = next;
-          rest = rest;
-          parts = a.parts ∙ ap (λ (l : List TreeLeaf). a.passed ++ (a.leaf ∷ l)) on ∙ one_passed a.passed (next ∷ rest) a.leaf;
-          long = omega (arith, sum, long);
-          behind = ap (leaf_after t.tree) at ∙ after_it ∙ ap first_leaf on;
-          onward = a.are.later;
-          are = parted next.rows (all_rows rest) a.are.later (sym (ap all_rows on) ∙ a.are.second);
-          spell = all_second def.schema a.are.here a.are.later (subst (AllByRecursion (IsFileRow def.schema)) a.are.are a.spell);
-          whole = with_leaf t def.schema w after turns rows new a is;
-        }
+    later : List FileRow
+    later = drop (length leaf.rows) rows
 
-none_stored : (rows : List FileRow) → [] ≡ map stored_of rows → rows ≡ []
-none_stored [] none = refl
-none_stored (r ∷ rows) none = absurd (let no : [] ≡ r.stored ∷ map stored_of rows = none in cc)
+    stored : all_rows leaves ≡ map stored_of later
+    stored = stored_later leaf.rows (all_rows leaves) rows is
 
--- where none does, all is done
-pub ahead_ends : {S : Type 0} (g : Ghosts S) (now : S) (def : TableDef) (t : FileTable) (w : Condition) (after more : Option ℕ) (turns : ℕ) (rows new : List Row) → HasFileTable g now def t → (a : Ahead t def.schema w after turns rows)
-    → new ≡ rows ++ held_rows w a.are.here → more ≡ option_map (λ (n : TreeLeaf). a.leaf.page) (leaf_after t.tree (Some a.leaf.page)) → is_some more ≡ false → new ≡ held_rows w t.rows
-ahead_ends g now def t w after more turns rows new has a is more_is none = by a.rest refl
+    parts : first ++ shown later ≡ shown rows
+    parts = shown_parts (length leaf.rows) rows
+
+    by : (b : Bool) → IsLast (shown later) (joined (pieces_behind page leaves later)) → IsLast (shown rows) (joined (if b then pieces_of leaves later else pieces_behind page leaves later))
+    by true rest = record { before = first; is = sym parts ∙ ap (λ (l : Piece). first ++ l) (sym (joined_are leaves later stored)) }
+    by false rest = record { before = first ++ rest.before; is = sym parts ∙ ap (λ (l : Piece). first ++ l) rest.is ∙ sym (append_assoc first rest.before (joined (pieces_behind page leaves later))) }
+
+-- the pieces that are left are the last of the rows of the table
+pub last_after : {S : Type 0} (g : Ghosts S) (now : S) (def : TableDef) (t : FileTable) (after : Option ℕ) (left : List Piece) → HasFileTable g now def t → IsBehind t after left → IsLast (shown t.rows) (joined left)
+last_after g now def t after left has behind = subst (λ (pieces : List Piece). IsLast (shown t.rows) (joined pieces)) behind.is (by after)
   where
-    after_it : leaf_after t.tree (Some a.leaf.page) ≡ first_leaf a.rest
-    after_it = next_is (g.shape now).pages (g.contents now) def.number def.root.0 t.tree a.passed a.rest a.leaf (tree_of g now def t has) a.parts
+    by : (after : Option ℕ) → IsLast (shown t.rows) (joined (pieces_after t after))
+    by None = record { before = []; is = sym (pieces_joined g now def t has) }
+    by (Some page) = last_behind page t.tree.leaves t.rows has.table.rows
 
-    by : (rest : List TreeLeaf) → a.rest ≡ rest → new ≡ held_rows w t.rows
-    by [] end =
-        let nothing : a.are.later ≡ [] = none_stored a.are.later (sym (ap all_rows end) ∙ a.are.second) in
-        sym (append-nil new) ∙ ap (λ (l : List FileRow). new ++ held_rows w l) (sym nothing) ∙ with_leaf t def.schema w after turns rows new a is
-    by (next ∷ rest) on = let at : more ≡ Some a.leaf.page = more_is ∙ ap (option_map (λ (n : TreeLeaf). a.leaf.page)) (after_it ∙ ap first_leaf on) in absurd (let no : true ≡ false = sym (ap is_some at) ∙ none in cc)
+all_last : {X : Type 0} (P : X → Type 0) (xs ys : List X) → AllByRecursion P (xs ++ ys) → AllByRecursion P ys
+all_last P [] ys all = all
+all_last P (x ∷ xs) ys all = all_last P xs ys all.1
 
--- so many leaves as the file has pages weren't read before one that is next
-pub ahead_few : {S : Type 0} (g : Ghosts S) (now : S) (def : TableDef) (t : FileTable) (w : Condition) (after : Option ℕ) (turns : ℕ) (rows : List Row) → HasFileTable g now def t → Ahead t def.schema w after turns rows → turns < (g.shape now).pages
-ahead_few g now def t w after turns rows has a =
-    let few = few_leaves (g.shape now).pages (g.contents now) def.number def.root.0 t.tree (tree_of g now def t has) in
-    let all = ap length a.parts ∙ length-append a.passed (a.leaf ∷ a.rest) in
-    let long = a.long in
-    omega (arith, few, all, long)
+all_front : {X : Type 0} (P : X → Type 0) (xs ys : List X) → AllByRecursion P (xs ++ ys) → AllByRecursion P xs
+all_front P [] ys all = tt
+all_front P (x ∷ xs) ys all = (all.0, all_front P xs ys all.1)
+
+-- what holds of each row of the table holds of each of the next piece
+pub of_piece : {S : Type 0} (g : Ghosts S) (now : S) (def : TableDef) (t : FileTable) (after : Option ℕ) (piece : Piece) (left : List Piece) (P : ℤ × Row → Type 0) → HasFileTable g now def t → IsBehind t after (piece ∷ left) → AllByRecursion P (shown t.rows) → AllByRecursion P piece
+of_piece g now def t after piece left P has behind all =
+    let last = last_after g now def t after (piece ∷ left) has behind in
+    all_front P piece (joined left) (all_last P last.before (piece ++ joined left) (subst (AllByRecursion P) last.is all))
+
+-- ---- the leaf that has the next piece
+
+pub record IsNextLeaf (schema : Schema) (leaves : List TreeLeaf) (rows : List FileRow) (next : Option TreeLeaf) (piece : Piece) (left : List Piece) : Type 0 where
+  pub leaf : TreeLeaf
+  pub there : next ≡ Some leaf
+  pub among : 1 ≤ times leaf.page (leaf_pages leaves)
+  pub here : List FileRow
+  pub stored : leaf.rows ≡ map stored_of here
+  pub spell : AllByRecursion (IsFileRow schema) here
+  pub piece_is : shown here ≡ piece
+  pub left_is : pieces_behind leaf.page leaves rows ≡ left
+
+same_piece : (a b : Piece) (xs ys : List Piece) → a ∷ xs ≡ b ∷ ys → a ≡ b
+same_piece a b xs ys is = cc
+
+same_left : (a b : Piece) (xs ys : List Piece) → a ∷ xs ≡ b ∷ ys → xs ≡ ys
+same_left a b xs ys is = cc
+
+no_piece : {A : Type 0} (b : Piece) (ys : List Piece) → [] ≡ b ∷ ys → A
+no_piece b ys is = cc
+
+module _ (schema : Schema) where
+  -- the first leaf has the first piece
+  first_next : (leaves : List TreeLeaf) (rows : List FileRow) (piece : Piece) (left : List Piece) → all_rows leaves ≡ map stored_of rows → AllByRecursion (IsFileRow schema) rows → pieces_of leaves rows ≡ piece ∷ left → IsNextLeaf schema leaves rows (first_leaf leaves) piece left
+  first_next [] rows piece left is all pieces = no_piece piece left pieces
+  first_next (leaf ∷ leaves) rows piece left is all pieces =
+      let n = length leaf.rows in
+      let itself : (leaf.page == leaf.page) ≡ true = grind arith in
+      let count = times_itself leaf.page (leaf_pages leaves) in
+      record {
+        leaf = leaf;
+        there = refl;
+        among = omega (arith, count);
+        here = take n rows;
+        stored = stored_first leaf.rows (all_rows leaves) rows is;
+        spell = all_first (IsFileRow schema) n rows all;
+        piece_is = same_piece (shown (take n rows)) piece (pieces_of leaves (drop n rows)) left pieces;
+        left_is =
+            ap (λ (b : Bool). if b then pieces_of leaves (drop n rows) else pieces_behind leaf.page leaves (drop n rows)) itself
+            ∙ same_left (shown (take n rows)) piece (pieces_of leaves (drop n rows)) left pieces;
+      }
+
+  -- with one leaf more before it
+  next_later : (x : TreeLeaf) (leaves : List TreeLeaf) (rows : List FileRow) (next : Option TreeLeaf) (piece : Piece) (left : List Piece) → ((page : ℕ) → times page (leaf_pages (x ∷ leaves)) ≤ 1) → IsNextLeaf schema leaves (drop (length x.rows) rows) next piece left
+      → IsNextLeaf schema (x ∷ leaves) rows next piece left
+  next_later x leaves rows next piece left once n =
+      let most : cond (x.page == n.leaf.page) 1 0 + times n.leaf.page (leaf_pages leaves) ≤ 1 = once n.leaf.page in
+      let among = n.among in
+      record {
+        leaf = n.leaf;
+        there = n.there;
+        among = omega (arith, among);
+        here = n.here;
+        stored = n.stored;
+        spell = n.spell;
+        piece_is = n.piece_is;
+        left_is =
+            ap (λ (b : Bool). if b then pieces_of leaves (drop (length x.rows) rows) else pieces_behind n.leaf.page leaves (drop (length x.rows) rows)) (other (x.page == n.leaf.page) (omega (arith, most, among)))
+            ∙ n.left_is;
+      }
+    where
+      other : (b : Bool) → cond b 1 0 ≤ 0 → b ≡ false
+      other false few = refl
+      other true few = absurd (omega (arith, few))
+
+  later_next : (page : ℕ) (leaves : List TreeLeaf) (rows : List FileRow) (piece : Piece) (left : List Piece) → ((page : ℕ) → times page (leaf_pages leaves) ≤ 1) → all_rows leaves ≡ map stored_of rows → AllByRecursion (IsFileRow schema) rows → pieces_behind page leaves rows ≡ piece ∷ left
+      → IsNextLeaf schema leaves rows (leaf_behind leaves page) piece left
+  later_next page [] rows piece left once is all pieces = no_piece piece left pieces
+  later_next page (x ∷ leaves) rows piece left once is all pieces = by (x.page == page) pieces (later_next page leaves later piece left (λ p. let most : cond (x.page == p) 1 0 + times p (leaf_pages leaves) ≤ 1 = once p in omega (arith, most)) stored each)
+    where
+      later : List FileRow
+      later = drop (length x.rows) rows
+
+      stored : all_rows leaves ≡ map stored_of later
+      stored = stored_later x.rows (all_rows leaves) rows is
+
+      each : AllByRecursion (IsFileRow schema) later
+      each = all_later (IsFileRow schema) (length x.rows) rows all
+
+      by : (b : Bool) → (if b then pieces_of leaves later else pieces_behind page leaves later) ≡ piece ∷ left → (pieces_behind page leaves later ≡ piece ∷ left → IsNextLeaf schema leaves later (leaf_behind leaves page) piece left)
+          → IsNextLeaf schema (x ∷ leaves) rows (if b then first_leaf leaves else leaf_behind leaves page) piece left
+      by true first deeper = next_later x leaves rows (first_leaf leaves) piece left once (first_next leaves later piece left stored each first)
+      by false rest deeper = next_later x leaves rows (leaf_behind leaves page) piece left once (deeper rest)
+
+-- the leaf behind that page, in whose piece the statement looks next
+pub next_leaf_is : {S : Type 0} (g : Ghosts S) (now : S) (def : TableDef) (t : FileTable) (after : Option ℕ) (piece : Piece) (left : List Piece) → HasFileTable g now def t → IsBehind t after (piece ∷ left)
+    → IsNextLeaf def.schema t.tree.leaves t.rows (leaf_after t.tree after) piece left
+next_leaf_is g now def t after piece left has behind = subst (λ (d : TableDef). IsNextLeaf d.schema t.tree.leaves t.rows (leaf_after t.tree after) piece left) has.is (by after behind.is)
+  where
+    alone : (page : ℕ) → times page (leaf_pages t.tree.leaves) ≤ 1
+    alone page =
+        let most = has.table.tree.levelled.once page in
+        let both = times_append page (leaf_pages t.tree.leaves) (level_pages has.table.tree.levels) in
+        omega (arith, most, both)
+
+    by : (after : Option ℕ) → pieces_after t after ≡ piece ∷ left → IsNextLeaf t.def.schema t.tree.leaves t.rows (leaf_after t.tree after) piece left
+    by None is = first_next t.def.schema t.tree.leaves t.rows piece left has.table.rows has.table.each is
+    by (Some page) is = later_next t.def.schema page t.tree.leaves t.rows piece left alone has.table.rows has.table.each is
+
+-- ---- a leaf as it is read
+
+kept_twice : (rows : List FileRow) → kept_rows_of (map stored_of rows) ≡ map (λ (r : FileRow). kept_row_of r.stored) rows
+kept_twice [] = refl
+kept_twice (r ∷ rows) = ap (λ (l : List KeptRow). kept_row_of r.stored ∷ l) (kept_twice rows)
+
+pub leaf_kept : (schema : Schema) (tree : Tree) (leaf : TreeLeaf) (here : List FileRow) (answer : Leaf) (slice : List KeptRow) → leaf.rows ≡ map stored_of here → AllByRecursion (IsFileRow schema) here → IsLeafOf tree leaf answer → slice ≡ answer.rows → AreKeptAs schema slice here
+leaf_kept schema tree leaf here answer slice stored spell is read = record { are = read ∙ is.rows ∙ ap kept_rows_of stored ∙ kept_twice here; spell = spell }
+
+-- where no leaf stands to the right, no pieces are left, and else some are
+none_behind : (page : ℕ) (leaves : List TreeLeaf) (rows : List FileRow) → leaf_behind leaves page ≡ None → pieces_behind page leaves rows ≡ []
+none_behind page [] rows none = refl
+none_behind page (x ∷ leaves) rows none = by (x.page == page) none (none_behind page leaves (drop (length x.rows) rows))
+  where
+    first : (leaves : List TreeLeaf) (rows : List FileRow) → first_leaf leaves ≡ None → pieces_of leaves rows ≡ []
+    first [] rows is = refl
+    first (leaf ∷ others) rows is = absurd (let no : Some leaf ≡ None = is in cc)
+
+    by : (b : Bool) → (if b then first_leaf leaves else leaf_behind leaves page) ≡ None → (leaf_behind leaves page ≡ None → pieces_behind page leaves (drop (length x.rows) rows) ≡ [])
+        → (if b then pieces_of leaves (drop (length x.rows) rows) else pieces_behind page leaves (drop (length x.rows) rows)) ≡ []
+    by true is deeper = first leaves (drop (length x.rows) rows) is
+    by false is deeper = deeper is
+
+some_behind : (page : ℕ) (leaves : List TreeLeaf) (rows : List FileRow) (leaf : TreeLeaf) → leaf_behind leaves page ≡ Some leaf → HasPiece (pieces_behind page leaves rows)
+some_behind page [] rows leaf some = absurd (let no : None ≡ Some leaf = some in cc)
+some_behind page (x ∷ leaves) rows leaf some = by (x.page == page) some (some_behind page leaves (drop (length x.rows) rows) leaf)
+  where
+    first : (leaves : List TreeLeaf) (rows : List FileRow) → first_leaf leaves ≡ Some leaf → HasPiece (pieces_of leaves rows)
+    first [] rows is = absurd (let no : None ≡ Some leaf = is in cc)
+    first (other ∷ others) rows is = record { first = shown (take (length other.rows) rows); later = pieces_of others (drop (length other.rows) rows); is = refl }
+
+    by : (b : Bool) → (if b then first_leaf leaves else leaf_behind leaves page) ≡ Some leaf → (leaf_behind leaves page ≡ Some leaf → HasPiece (pieces_behind page leaves (drop (length x.rows) rows)))
+        → HasPiece (if b then pieces_of leaves (drop (length x.rows) rows) else pieces_behind page leaves (drop (length x.rows) rows))
+    by true is deeper = first leaves (drop (length x.rows) rows) is
+    by false is deeper = deeper is
+
+-- its page is answered where pieces are left behind it
+pub goes_on : (t : FileTable) (leaf : TreeLeaf) (left : List Piece) (next : Option PageNo) (page : PageNo) → page.0 ≡ leaf.page → number_of next ≡ page_in (leaf_after t.tree (Some leaf.page)) → pieces_behind leaf.page t.tree.leaves t.rows ≡ left
+    → IsNext t (option_map (λ (n : PageNo). page) next) left
+goes_on t leaf left next page at is behind = by next (leaf_behind t.tree.leaves leaf.page) refl is
+  where
+    by : (next : Option PageNo) (o : Option TreeLeaf) → leaf_behind t.tree.leaves leaf.page ≡ o → number_of next ≡ page_in o → IsNext t (option_map (λ (n : PageNo). page) next) left
+    by None None there is = sym behind ∙ none_behind leaf.page t.tree.leaves t.rows there
+    by None (Some n) there is = absurd (let no : None ≡ Some n.page = is in cc)
+    by (Some n) None there is = absurd (let no : Some n.0 ≡ None = is in cc)
+    by (Some n) (Some m) there is = (
+      subst HasPiece behind (some_behind leaf.page t.tree.leaves t.rows m there),
+      record { is = ap (λ (p : ℕ). pieces_behind p t.tree.leaves t.rows) at ∙ behind },
+    )

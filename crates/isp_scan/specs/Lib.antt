@@ -1,2 +1,4 @@
-pub mod Scanning
+pub mod Keys
+pub mod Leaves
 pub mod Readings
+pub mod Scanning

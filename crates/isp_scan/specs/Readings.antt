@@ -6,12 +6,12 @@ use Rattle.isp_plain.specs.RowBytes.{row_bytes, row_limit}
 use Rattle.isp_plain.specs.Values.{key_of}
 use Rattle.isp_plain.specs.declared.statement.Assign.{Assign}
 use Rattle.isp_plain.specs.declared.statement.Statement.{Statement}
-use Rattle.isp_plain.specs.declared.statement.Statement.TheVariants.{Select, Update}
+use Rattle.isp_plain.specs.declared.statement.Statement.TheVariants.{Update}
 use Rattle.isp_plain.specs.declared.value.Row.{Row}
 use Rattle.isp_plain.specs.declared.value.Schema.{Schema}
 use Rattle.isp_row.specs.RowSpelling.{IsRowOf}
 use Rattle.isp_work.specs.declared.found.Found.{Found}
-use Rattle.isp_work.specs.declared.found.Found.TheVariants.{Changing}
+use Rattle.isp_work.specs.declared.found.Found.TheVariants.{Rows}
 
 -- a row of the schema with no more bytes than a row may have
 pub record IsPutRow (schema : Schema) (row : Row) : Type 0 where
@@ -28,10 +28,10 @@ SetsFitIn schema _ = Unit {0}
 
 -- the rows that were found can be written
 abbrev pub AreFoundNew : Schema → Found → Type 0
-AreFoundNew schema (Changing rows) = AllByRecursion (IsPutRow schema) rows
+AreFoundNew schema (Rows rows) = AllByRecursion (IsPutRow schema) rows
 AreFoundNew schema _ = Unit {0}
 
+-- those of UPDATE can
 abbrev pub AreFoundFor : Schema → Statement → Found → Type 0
-AreFoundFor schema (Select name columns w) found = AreFoundNew schema found
 AreFoundFor schema (Update name sets w) found = AreFoundNew schema found
 AreFoundFor schema _ found = Unit {0}

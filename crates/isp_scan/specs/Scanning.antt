@@ -1,25 +1,22 @@
 -- What a statement reads of a table: the rows that aren't marked and of which its condition holds.
-use Rattle.std.specs.Prelude.{◌≡◌, ℕ, Bool, nat_lt, List, [], ◌∷◌, filter, map, if◌then◌else◌, Option, Some, None}
+use Rattle.std.specs.Prelude.{◌≡◌, ℕ, List, [], ◌∷◌, filter, map, if◌then◌else◌, Option, Some, None}
 use Rattle.std.specs.List.{AllByRecursion, list_any}
 use Rattle.std.specs.Map.{values_of}
 use Rattle.isp_catalog.specs.declared.table.TableDef.{TableDef}
-use Rattle.isp_clustered.specs.Calls.{HasTree}
 use Rattle.isp_clustered.specs.Leaves.{kept_row_of}
-use Rattle.isp_clustered.specs.Trees.{Tree, leaf_after}
 use Rattle.isp_clustered.specs.declared.kept.KeptRow.{KeptRow}
 use Rattle.isp_image.specs.Databases.{FileRow, FileTable, shown}
 use Rattle.isp_image.specs.Files.{IsFileRow, IsFileTable}
-use Rattle.isp_levels.specs.Levels.{TreeLeaf}
 use Rattle.isp_page.specs.declared.pages.Pages.{Ghosts}
 use Rattle.isp_plain.specs.Conditions.{holds}
 use Rattle.isp_plain.specs.Does.{with_sets}
-use Rattle.isp_plain.specs.RowBytes.{row_bytes, row_limit}
 use Rattle.isp_plain.specs.Values.{key_of}
 use Rattle.isp_plain.specs.declared.statement.Assign.{Assign}
 use Rattle.isp_plain.specs.declared.statement.Condition.{Condition}
 use Rattle.isp_plain.specs.declared.value.Row.{Row}
 use Rattle.isp_plain.specs.declared.value.Schema.{Schema}
 use Rattle.isp_row.specs.RowSpelling.{IsRowOf, Spells}
+use Rattle.isp_work.specs.Finding.{is_too_large}
 
 -- the row, if the condition holds of it
 abbrev pub held_of : Condition → Row → List Row
@@ -47,22 +44,11 @@ pub record HasFileTable {S : Type 0} (g : Ghosts S) (now : S) (def : TableDef) (
   pub is : t.def ≡ def
   pub table : IsFileTable (g.shape now).pages (g.contents now) def.number t
 
--- the leaf behind that page, the first one where none is named, of the table's tree, and its rows
-pub record HasLeafRows {S : Type 0} (g : Ghosts S) (now : S) (def : TableDef) (after : Option ℕ) (tree : Tree) (leaf : TreeLeaf) (rows : List FileRow) : Type 0 where
-  pub is_tree : HasTree g now def.number def.root.0 tree
-  pub behind : leaf_after tree after ≡ Some leaf
-  pub stored : leaf.rows ≡ map (λ (r : FileRow). r.stored) rows
-  pub spell : AllByRecursion (IsFileRow def.schema) rows
-
 -- ---- UPDATE
-
--- with the new values the row would have more bytes than a row may have
-abbrev pub outgrows_by : Schema → List Assign → Row → Bool
-outgrows_by schema sets row = nat_lt row_limit (row_bytes schema (with_sets sets row))
 
 -- the rows with the new values, unless one of them would
 abbrev pub updated_or_none : Schema → List Assign → List Row → Option (List Row)
-updated_or_none schema sets rows = if list_any (outgrows_by schema sets) rows then None else Some (map (with_sets sets) rows)
+updated_or_none schema sets rows = if list_any (is_too_large schema sets) rows then None else Some (map (with_sets sets) rows)
 
 -- ---- bytes
 

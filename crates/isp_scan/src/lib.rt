@@ -1,28 +1,23 @@
-//! What a statement reads of a table, and the rows that it writes.
+//! What a statement reads of a table, piece by piece, and the rows that it writes.
 //!
 //! - `condition`, `sets`, `cut`: of which rows a condition holds, what UPDATE puts into a row, and the columns that SELECT names.
 //! - `rows`: a row's key, its bytes, and the rows of UPDATE.
-//! - `held`, `table`: the rows of a leaf, and of a table, of which a condition holds.
-//! - `keyed`: the row that a condition names by its key, looked up.
-//! - `reading`, `looking`: the rows that a statement reads, and whether a key is taken.
+//! - `held`, `finding`: the rows of a leaf of which a condition holds, and what a statement finds among them.
+//! - `leaves`, `keyed`: a table leaf by leaf, and the row that a condition names by its key.
+//! - `looking`: whether a key is taken.
 #![tactic(auto)]
 
 mod condition;
 mod cut;
+mod finding;
 mod held;
 mod keyed;
+mod leaves;
 mod looking;
-mod reading;
 mod rows;
 mod sets;
-mod table;
 
-pub use condition::holds;
-pub use cut::cut_rows;
-pub use held::held_in;
-pub use keyed::rows_by;
+pub use keyed::{named_key, read_key};
+pub use leaves::{LeafFound, read_leaf};
 pub use looking::is_taken;
-pub use reading::read_rows;
-pub use rows::{key_of, spell, updated_rows};
-pub use sets::with_sets;
-pub use table::scan;
+pub use rows::{key_of, spell};

@@ -2,6 +2,7 @@
 
 ghost use Rattle.std.specs.Prelude.{◌≡◌, ◌<◌, is_some, true, IfErr, IfOk, OnOk};
 ghost use Rattle.isp_changes.specs.Rows.{row_at};
+ghost use Rattle.isp_clustered.specs.Calls.{Lacks};
 ghost use Rattle.isp_file_laws.specs.Seen.{is_live};
 ghost use Rattle.isp_image.specs.Databases.{FileTable, shown};
 ghost use Rattle.isp_image.specs.Faults.{NamesLaterOrLacks};
@@ -39,6 +40,7 @@ pub fn is_taken<P: Pages>(
     requires page { def.now.root.0 < (P.shape pages.old).pages }
     ensures kept { ContinuesOrLacks P.Pages pages.old pages.new result }
     ensures contents { P.tells → OnOk result (P.contents pages.new ≡ P.contents pages.old) }
+    ensures lacks { P.tells → Lacks result (P.contents pages.new ≡ P.contents pages.old) }
     ensures mini { OnOk result (P.mini pages.new ≡ P.mini pages.old) }
     ensures taken { P.tells → (t : FileTable) → HasFileTable P.Pages pages.old def.now t
         → IfOk result (λ taken. taken ≡ is_some (row_at (shown t.rows) key)) }

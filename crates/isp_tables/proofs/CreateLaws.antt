@@ -8,7 +8,6 @@ use Rattle.isp_catalog.specs.Catalogue.{has_table}
 use Rattle.isp_catalog.specs.Limits.{AreColumns, are_distinct, has_key, is_indexable, most_indexed}
 use Rattle.isp_catalog.specs.declared.table.TableDef.{TableDef}
 use Rattle.isp_changes.specs.Stages.{with_empty}
-use Rattle.isp_format.specs.Ranges.{Contents}
 use Rattle.isp_creating.specs.Creating.{CanCreate, Created}
 use Rattle.isp_image.specs.Databases.{Database, FileImage, FileTable, tables_of}
 use Rattle.isp_chained.specs.Chained.{ChainedFile, alone}
@@ -21,7 +20,7 @@ use Rattle.isp_space.specs.Spaces.{Space, free_pages, has_room, most_counted, ro
 use Rattle.isp_trx.specs.Transactions.{TrxState}
 use Rattle.isp_trx_laws.proofs.MarkLaws.{create_adds_none}
 use Rattle.isp_tables.specs.Calls.{AreInside, AreKeyed}
-use Rattle.isp_tables.specs.Creations.{DidCreate, IsNewDefinition}
+use Rattle.isp_tables.specs.Creations.{DidCreate, HasRoom, IsNewDefinition}
 use Rattle.isp_tables.specs.Opened.{IsOpen}
 use Rattle.isp_tables.proofs.TableLaws.{def_of}
 
@@ -56,14 +55,15 @@ can_create g now defs trx d name schema number opened new is room = record {
   free = room_free (g.shape now).pages d.space room;
 }
 
-pub did_create : {S : Type 0} (g : Ghosts S) (old new : S) (defs defs_now : List TableDef) (trx : TrxState) (d : Database) (name : List ℕ) (schema : Schema) (def : TableDef) (mid : Contents) (opened : IsOpen g old defs trx d)
-    → (g.shape new).pages ≡ (g.shape old).pages → g.contents new ≡ mid → def.name ≡ name → def.schema ≡ schema → defs_now ≡ defs ++ def ∷ [] → Created (g.shape old).pages mid (alone trx.session opened.chain) def d
+pub did_create : {S : Type 0} (g : Ghosts S) (old new : S) (defs defs_now : List TableDef) (trx : TrxState) (d : Database) (name : List ℕ) (schema : Schema) (def : TableDef) (opened : IsOpen g old defs trx d)
+    → (g.shape new).pages ≡ (g.shape old).pages → HasRoom g old d → def.name ≡ name → def.schema ≡ schema → defs_now ≡ defs ++ def ∷ [] → Created (g.shape old).pages (g.contents new) (alone trx.session opened.chain) def d
     → DidCreate g new defs_now trx name schema d
-did_create g old new defs defs_now trx d name schema def mid opened pages contents name_is schema_is defs_are c =
+did_create g old new defs defs_now trx d name schema def opened pages room name_is schema_is defs_are c =
     let n = (g.shape new).pages in
     let chains = alone trx.session opened.chain in
-    let kept_now : ChainedFile n (g.contents new) c.after chains = subst (λ (k : ℕ). ChainedFile k (g.contents new) c.after chains) (sym pages) (subst (λ (x : Contents). ChainedFile (g.shape old).pages x c.after chains) (sym contents) c.kept) in
+    let kept_now : ChainedFile n (g.contents new) c.after chains = subst (λ (k : ℕ). ChainedFile k (g.contents new) c.after chains) (sym pages) c.kept in
     record {
+      room = ap (λ (k : ℕ). has_room k d.space) pages ∙ room;
       after = c.after;
       opened = record {
         chain = opened.chain;
@@ -71,7 +71,7 @@ did_create g old new defs defs_now trx d name schema def mid opened pages conten
         slot = opened.slot;
         defs_are = ap (map def_of) c.tables ∙ append_map d.tables c.table ∙ (λ i. opened.defs_are i ++ c.def_is i ∷ []) ∙ sym defs_are;
         noted = opened.noted ∙ sym (ap (λ (images : List FileImage). length images) c.images);
-        written = create_adds_none (g.shape old).pages mid chains trx.keys def d opened.written c;
+        written = create_adds_none (g.shape old).pages (g.contents new) chains trx.keys def d opened.written c;
       };
       images = c.images;
       tables = c.now ∙ (λ i. with_empty (tables_of d) (name_is i) (schema_is i));

@@ -29,8 +29,9 @@ IsCreatable defs _ = ⊥
 abbrev pub HasRoom : {S : Type 0} → Ghosts S → S → Database → Type 0
 HasRoom g now d = has_room (g.shape now).pages d.space ≡ true
 
--- The table was added without rows, and nothing else changed.
+-- There was room, the table was added without rows, and nothing else changed.
 pub record DidCreate {S : Type 0} (g : Ghosts S) (now : S) (defs : List TableDef) (trx : TrxState) (name : List ℕ) (schema : Schema) (d : Database) : Type 0 where
+  pub room : HasRoom g now d
   pub after : Database
   pub opened : IsOpen g now defs trx after
   pub images : after.images ≡ d.images

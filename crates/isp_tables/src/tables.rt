@@ -1,22 +1,27 @@
 //! The tables of a file.
 
-ghost use Rattle.std.specs.Prelude.{◌≡◌, ◌<◌, ◌+◌, ◌++◌, [], ◌∷◌, List, length, slice_get, true, IfErr, IfOk, OnErr, OnOk};
+ghost use Rattle.std.specs.Prelude.{◌≡◌, ◌<◌, ◌+◌, ◌++◌, [], ◌∷◌, List, length, slice_get, false, true, IfErr, IfOk, OnErr, OnOk};
 ghost use Rattle.std.specs.Option.{option_copied};
 ghost use Rattle.isp_catalog.specs.Catalogue.{HasTables};
 ghost use Rattle.isp_catalog.specs.declared.table.TableDef.{TableDef};
+ghost use Rattle.isp_clustered.specs.Calls.{Lacks};
+ghost use Rattle.isp_creating.specs.Creating.{CanCreate, Created, MayDefine, with_root};
 ghost use Rattle.isp_page.specs.Calls.{ContinuesOrLacks};
 ghost use Rattle.isp_catalog.specs.Limits.{has_key};
 ghost use Rattle.isp_format.specs.Definition.{most_tables};
 ghost use Rattle.isp_format.specs.Rules.{catalogue_rule, space_number};
+ghost use Rattle.isp_image.specs.Databases.{Database};
 ghost use Rattle.isp_image.specs.Faults.{NamesLaterOrLacks};
-ghost use Rattle.isp_page.specs.Steps.{IsNoDamageOrLacks};
+ghost use Rattle.isp_page.specs.Steps.{IsNoDamageOrLacks, LeavesAlone};
 ghost use Rattle.isp_page.specs.declared.fault.Fault.TheVariants.{Store};
 ghost use Rattle.isp_page.specs.declared.fault.StoreFault.TheVariants.{Damaged};
 ghost use Rattle.isp_space.specs.Spaces.{Space};
+ghost use Rattle.isp_undo.specs.Chains.{Chain};
 ghost use Rattle.isp_trx.specs.Roots.{numbers_of};
-ghost use Rattle.isp_tables.specs.Calls.{AreInside, AreKeyed};
+ghost use Rattle.isp_tables.specs.Calls.{AreInside, AreKeyed, Keeps};
 ghost use Rattle.isp_tables.specs.TableLists.{are_keyed, place_in, roots_of};
 
+use crate::making::make_for_good;
 use isp_base::{Name, PageNo};
 use isp_catalog::{TableDef, load};
 use isp_format::{CATALOGUE_RULE, SPACE_PAGE};
@@ -164,15 +169,41 @@ impl Tables {
         self.defs.iter().position(|def| def.name == *name)
     }
 
-    /// Adds a table behind the last. The error is want of memory, and leaves the tables as they were.
-    pub fn push(&mut self, def: TableDef) -> Result<(), AllocError>
-        ensures ok { OnOk result (self.new ≡ self.old ++ def ∷ []) }
-        ensures err { OnErr result (self.new ≡ self.old) }
+    /// Makes a table of this definition for good, and adds it behind the last; answers the root of its tree. All memory is taken
+    /// first.
+    ///
+    /// # Errors
+    ///
+    /// Disk; want of memory, which leaves the contents as they were; or Damaged, as of `create_table` of isp_creating. The tables
+    /// are as they were then.
+    pub(crate) fn make<P: Pages>(&mut self, pages: &mut P, def: TableDef) -> Result<PageNo, Fault>
+        requires usable { P.usable pages.old ≡ true }
+        requires none { (P.mini pages.old).is_begun ≡ false }
+        requires may { MayDefine def }
+        ensures kept { Keeps P.Pages pages.old pages.new result }
+        ensures lacks { P.tells → Lacks result (P.contents pages.new ≡ P.contents pages.old) }
+        ensures flushed { P.tells → OnOk result (LeavesAlone (P.contents pages.new) (P.may_leave
+            pages.new)) }
+        ensures mini { OnOk result ((P.mini pages.new).is_begun ≡ false) }
+        ensures added { IfOk result (λ root. self.new ≡ self.old ++ with_root root def ∷ []) }
+        ensures failed { OnErr result (self.new ≡ self.old) }
+        ensures inside { IfOk result (λ root. root.0 < (P.shape pages.old).pages) }
+        ensures created { P.tells → (chains : List Chain) (d : Database)
+            → CanCreate (P.shape pages.old).pages (P.contents pages.old) chains def.number def.name d
+            → IfOk result (λ root. Created (P.shape pages.old).pages (P.contents pages.new) chains
+            (with_root root def) d) }
+        ensures sound { P.tells → (chains : List Chain) (d : Database)
+            → CanCreate (P.shape pages.old).pages (P.contents pages.old) chains def.number def.name d
+            → IfErr result IsNoDamageOrLacks }
+        ensures later { IfErr result NamesLaterOrLacks }
     {
+        self.defs.reserve(1)?;
         self.roots.reserve(1)?;
+        let mut def = def;
+        make_for_good(pages, &mut def)?;
         let root = def.root;
-        self.defs.push(def)?;
+        self.defs.push_reserved(def);
         self.roots.push_reserved(root);
-        Ok(())
+        Ok(root)
     }
 }

@@ -1,4 +1,4 @@
--- What a statement finds in the rows of its table that it reads at once.
+-- What a statement finds in a piece of its table, which it reads at once.
 use Rattle.std.specs.Prelude.{ℤ, Bool, true, false, nat_lt, List, [], filter, map, if◌then◌else◌}
 use Rattle.std.specs.List.{list_any}
 use Rattle.std.specs.Map.{values_of}

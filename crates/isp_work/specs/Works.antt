@@ -1,10 +1,10 @@
 -- Where a statement stands that goes on step by step, as a stage of plain tables.
-use Rattle.std.specs.Prelude.{◌≡◌, ℕ, ◌+◌, ◌-◌, ◌^◌, ◌<◌, ◌≤◌, ℤ, Bool, true, false, is_some, nat_lt, List, [], ◌++◌, drop, length, map, slice_get, if◌then◌else◌, Option, Some, None}
+use Rattle.std.specs.Prelude.{◌≡◌, ℕ, ◌+◌, ◌-◌, ◌^◌, ◌<◌, ◌≤◌, ℤ, Bool, true, false, is_some, nat_lt, List, [], ◌∷◌, ◌++◌, drop, length, map, slice_get, if◌then◌else◌, Option, Some, None}
 use Rattle.std.specs.List.{AllByRecursion}
 use Rattle.std.specs.Map.{values_of}
 use Rattle.std.specs.Option.{option_map}
 use Rattle.isp_base.specs.declared.page_no.PageNo.{PageNo}
-use Rattle.isp_changes.specs.Changes.{RowChange, replacing}
+use Rattle.isp_changes.specs.Changes.{RowChange, held, joined, replacing}
 use Rattle.isp_changes.specs.Rows.{AreKeyed, row_at}
 use Rattle.isp_changes.specs.Stages.{Phase, Stage, changing, creating, is_insert, looking, reading, ready, stage_at, undoing}
 use Rattle.isp_plain.specs.declared.refusal.Refusal.{Refusal}
@@ -12,7 +12,7 @@ use Rattle.isp_plain.specs.declared.refusal.Refusal.TheVariants.{DuplicateKey, F
 use Rattle.isp_plain.specs.declared.statement.Reply.{Reply}
 use Rattle.isp_plain.specs.declared.statement.Reply.TheVariants as reply
 use Rattle.isp_plain.specs.declared.statement.Statement.{Statement}
-use Rattle.isp_plain.specs.declared.statement.Statement.TheVariants.{Create, Delete, Insert, Select, Update}
+use Rattle.isp_plain.specs.declared.statement.Statement.TheVariants.{Create, Delete, Insert, Rollback, Select, Update}
 use Rattle.isp_plain.specs.declared.value.Row.{Row}
 use Rattle.isp_plain.specs.declared.value.Schema.{Schema}
 use Rattle.isp_plain.specs.Does.{cut, with_sets}
@@ -56,8 +56,21 @@ pub record Pieces : Type 0 where
   pub read : List (ℤ × Row)
   pub left : List (List (ℤ × Row))
 
-abbrev pub no_pieces : Pieces
-no_pieces = record { read = []; left = [] }
+-- none of them is read
+abbrev pub all_left : List (List (ℤ × Row)) → Pieces
+all_left left = record { read = []; left = left }
+
+-- one more of these is read
+abbrev pub behind_first : Statement → List (ℤ × Row) → List (List (ℤ × Row)) → Pieces
+behind_first statement read [] = record { read = read; left = [] }
+behind_first statement read (piece ∷ left) = record { read = read ++ held statement piece; left = left }
+
+abbrev pub behind_piece : Pieces → Statement → Pieces
+behind_piece pieces statement = behind_first statement pieces.read pieces.left
+
+-- the rows that were read, and those that hold in the pieces left, are all of these that hold
+abbrev pub AreReadOf : Statement → List (ℤ × Row) → Pieces → Type 0
+AreReadOf statement rows pieces = pieces.read ++ held statement (joined pieces.left) ≡ held statement rows
 
 -- what is kept of the rows that were read: the columns of the answer; the rows with their new values, which have the same keys; or
 -- the rows
@@ -94,6 +107,10 @@ abbrev pub stage_of : List Table → List RowChange → Pieces → Progress → 
 stage_of tables noted pieces work = stage_at tables noted (phase_at tables pieces work work.phase)
 
 -- ---- how it goes on
+
+abbrev pub is_rollback : Statement → Bool
+is_rollback Rollback = true
+is_rollback _ = false
 
 abbrev pub is_ready : WorkPhase → Bool
 is_ready Ready = true
@@ -188,3 +205,13 @@ look_by (Some row) rows = look_of row rows
 -- the rows that it keeps are as many as memory can hold
 abbrev pub IsSmall : Progress → Type 0
 IsSmall work = length (rows_named work.statement work.rows) < 2 ^ 64
+
+-- where no leaf is left
+abbrev pub IsSmallOut : Option PageNo → Progress → Type 0
+IsSmallOut None work = IsSmall work
+IsSmallOut (Some page) work = Unit {0}
+
+-- with what was found, where that is all
+abbrev pub TakesSmall : Progress → Found → Option PageNo → Type 0
+TakesSmall work (found.Rows rows) next = IsSmallOut next (record work { rows = work.rows ++ rows })
+TakesSmall work found.TooLarge next = Unit {0}

@@ -5,13 +5,13 @@
 //! (`specs/Works`, `proofs/StageLaws`). What a step finds is read from pages by others.
 //!
 //! - `phase`, `found`: what comes next, and what a step finds.
-//! - `work`: a statement on its way; `starting`: how it begins.
+//! - `progress`: a statement on its way; `starting`: how it begins.
 #![tactic(auto)]
 
 mod found;
 mod phase;
-mod starting;
 mod progress;
+mod starting;
 
 pub use found::{Changed, Found, Looked};
 pub use phase::Phase;

@@ -4,7 +4,7 @@ ghost use Rattle.std.specs.Prelude.{◌≡◌, ◌<◌, ◌≤◌, ◌+◌, ◌^
 ghost use Rattle.std.specs.Option.{option_copied};
 ghost use Rattle.isp_changes.specs.Stages.{is_insert};
 ghost use Rattle.isp_plain.specs.declared.statement.Reply.TheVariants as reply;
-ghost use Rattle.isp_work.specs.Works.{IsChangeOf, IsSmall, changed_by, failed_by, first_of, is_delete, is_ready, is_select, looked_by, made_by, passed, read_by, read_out, rows_named, started, took, went_on};
+ghost use Rattle.isp_work.specs.Works.{IsChangeOf, IsSmall, IsSmallOut, TakesSmall, changed_by, failed_by, first_of, is_delete, is_ready, is_select, looked_by, made_by, passed, read_by, read_out, rows_named, started, took, went_on};
 
 use crate::found::{Changed, Found, Looked};
 use crate::phase::Phase;
@@ -235,7 +235,8 @@ impl Progress {
     // Goes on to the leaf behind that page, or where none is left.
     fn read_on(&mut self, alloc: Global, next: Option<PageNo>)
         requires left { IfSome next (λ page. 1 ≤ self.old.budget) }
-        ensures { self.new ≡ read_by next self.old }
+        ensures is { self.new ≡ read_by next self.old }
+        ensures small { IsSmallOut next self.old }
     {
         match next {
             Some(page) => {
@@ -259,7 +260,8 @@ impl Progress {
         noted: usize,
     ) -> Result<(), AllocError>
         requires left { IfSome next (λ page. 1 ≤ self.old.budget) }
-        ensures { OnOk result (self.new ≡ took self.old found next noted) }
+        ensures is { OnOk result (self.new ≡ took self.old found next noted) }
+        ensures small { OnOk result (TakesSmall self.old found next) }
     {
         match found {
             Found::Rows(rows) => {

@@ -9,17 +9,19 @@ use isp_plain::{Refusal, Reply, Statement};
 use std::alloc::Global;
 
 // A statement on the table at a place.
-fn began(
-    alloc: Global,
-    statement: Statement,
-    place: usize,
-    base: usize,
-    budget: u32,
-) -> Progress
+fn began(alloc: Global, statement: Statement, place: usize, base: usize, budget: u32) -> Progress
     ensures { result ≡ began statement place base budget }
 {
     let inserts = is_insert(&statement);
-    let mut work = Progress::new(alloc, statement, place, base, budget, Phase::Reading, Reply::Ok);
+    let mut work = Progress::new(
+        alloc,
+        statement,
+        place,
+        base,
+        budget,
+        Phase::Reading,
+        Reply::Ok,
+    );
     if inserts {
         work.go_on();
     }
@@ -59,13 +61,29 @@ impl Progress {
     {
         match &statement {
             Statement::Create { .. } => {
-                Progress::new(alloc, statement, 0, base, budget, Phase::Creating, Reply::Ok)
+                Progress::new(
+                    alloc,
+                    statement,
+                    0,
+                    base,
+                    budget,
+                    Phase::Creating,
+                    Reply::Ok,
+                )
             }
             Statement::Begin | Statement::Commit => {
                 Progress::new(alloc, statement, 0, base, budget, Phase::Ready, Reply::Ok)
             }
             Statement::Rollback => {
-                Progress::new(alloc, statement, 0, 0, budget, Phase::RollingBack, Reply::Ok)
+                Progress::new(
+                    alloc,
+                    statement,
+                    0,
+                    0,
+                    budget,
+                    Phase::RollingBack,
+                    Reply::Ok,
+                )
             }
             Statement::Refused(refusal) => {
                 let reply = Reply::Err(*refusal);

@@ -196,6 +196,7 @@ module _ {S : Type 0} (g : Ghosts S) (old new : S) (defs : List TableDef) (trx t
       let was = opened.noted in
       let one_more : length wrote.after.images ≡ suc (length d.images) = ap (λ (l : List FileImage). length l) images in
       record {
+        room = ap (λ (k : ℕ). has_room k d.space) pages ∙ can.room;
         after = wrote.after;
         opened = record {
           chain = after;

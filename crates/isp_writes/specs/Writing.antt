@@ -23,6 +23,7 @@ use Rattle.isp_plain.specs.declared.value.Schema.{Schema}
 use Rattle.isp_trx.specs.Transactions.{HasNoted, TrxState, old_image}
 use Rattle.isp_trx.specs.Writes.{CanWrite, Write, Wrote, is_smaller, place_of}
 use Rattle.isp_writes.specs.Causes.{IsFull}
+use Rattle.isp_tables.specs.Creations.{HasRoom}
 use Rattle.isp_tables.specs.Opened.{IsOpen}
 
 -- ---- bytes
@@ -72,8 +73,9 @@ Notes trx trx_now done = trx_now.count ≡ trx.count + (if done then 1 else 0)
 
 -- ---- one row of a table
 
--- The change was made, with what stood there noted, and nothing else.
+-- There was room, and the change was made, with what stood there noted, and nothing else.
 pub record DidWrite {S : Type 0} (g : Ghosts S) (now : S) (defs : List TableDef) (trx : TrxState) (change : RowChange) (d : Database) : Type 0 where
+  pub room : HasRoom g now d
   pub after : Database
   pub opened : IsOpen g now defs trx after
   pub image : FileImage

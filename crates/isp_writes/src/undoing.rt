@@ -4,7 +4,7 @@ ghost use Rattle.std.specs.Prelude.{◌≡◌, nat_lt, IfErr, OnOk};
 ghost use Rattle.isp_image.specs.Databases.{Database};
 ghost use Rattle.isp_image.specs.Faults.{NamesLaterOrLacks};
 ghost use Rattle.isp_page.specs.Steps.{IsNoDamageOrLacks};
-ghost use Rattle.isp_tables.specs.Calls.{Keeps, Serves};
+ghost use Rattle.isp_tables.specs.Calls.{IsOfStore, Keeps, Serves};
 ghost use Rattle.isp_tables.specs.Opened.{IsOpen};
 ghost use Rattle.isp_writes.specs.Writing.{UndidOrNot, fewer};
 
@@ -16,7 +16,7 @@ use isp_trx::Trx;
 ///
 /// # Errors
 ///
-/// As of `undo_one` of isp_trx.
+/// As of `undo_one` of isp_trx: memory is never wanted.
 pub fn undo_newest<P: Pages>(
     pages: &mut P,
     tables: &Tables,
@@ -33,6 +33,7 @@ pub fn undo_newest<P: Pages>(
     ensures sound { P.tells → (d : Database) → IsOpen P.Pages pages.old tables.now trx.old d
         → IfErr result IsNoDamageOrLacks }
     ensures later { IfErr result NamesLaterOrLacks }
+    ensures store { IfErr result IsOfStore }
 {
     if base < trx.undo_count() {
         let _more = trx.undo_one(pages, tables.roots())?;

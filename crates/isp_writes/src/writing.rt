@@ -2,6 +2,7 @@
 
 ghost use Rattle.std.specs.Prelude.{◌≡◌, ◌≤◌, ◌<◌, ℕ, List, true, false, length, Some, IfErr, IfOk, IfSome, OnOk};
 ghost use Rattle.isp_catalog.specs.declared.table.TableDef.{TableDef};
+ghost use Rattle.isp_clustered.specs.Calls.{Lacks};
 ghost use Rattle.isp_clustered.specs.declared.kept.Kept.{Kept};
 ghost use Rattle.isp_format.specs.Leaf.{most_slot};
 ghost use Rattle.isp_undo.specs.Chains.{Chain};
@@ -10,8 +11,9 @@ ghost use Rattle.isp_image.specs.Faults.{NamesLaterOrLacks};
 ghost use Rattle.isp_page.specs.Steps.{IsNoDamageOrLacks};
 ghost use Rattle.isp_plain.specs.RowBytes.{row_limit};
 ghost use Rattle.isp_plain.specs.declared.value.Row.{Row};
+ghost use Rattle.isp_trx.specs.Transactions.{SameTrx};
 ghost use Rattle.isp_trx.specs.Writes.{write_at};
-ghost use Rattle.isp_tables.specs.Calls.{Keeps};
+ghost use Rattle.isp_tables.specs.Calls.{IsOfStore, Keeps};
 ghost use Rattle.isp_tables.specs.Opened.{IsAtPlace, IsOpen, IsWritable};
 ghost use Rattle.isp_work.specs.Works.{change_by};
 ghost use Rattle.isp_scan.specs.Readings.{IsPutRow};
@@ -103,6 +105,8 @@ fn write_bytes<P: Pages>(
         → MayWrite (P.shape pages.old).pages (P.contents pages.old) chains trx.old.session chain
         (write_at at root.0 old.now bytes.now deletes) d t r → IfErr result IsNoDamageOrLacks }
     ensures later { IfErr result NamesLaterOrLacks }
+    ensures failed { IfErr result (λ fault. trx.new ≡ trx.old) }
+    ensures store { IfErr result IsOfStore }
 {
     if !has_room(pages)? {
         return Ok(false);
@@ -116,8 +120,9 @@ fn write_bytes<P: Pages>(
 ///
 /// # Errors
 ///
-/// Disk; want of memory; or Damaged, as of the calls of isp_clustered, isp_space and isp_undo, or with the table's root: rule 8 where
-/// what stands at the key has more bytes than a row may have, rule 7 where the row to be deleted isn't there. Nothing is written then.
+/// Disk; want of memory, which leaves the contents as they were; or Damaged, as of the calls of isp_clustered, isp_space and isp_undo,
+/// or with the table's root: rule 8 where what stands at the key has more bytes than a row may have, rule 7 where the row to be deleted
+/// isn't there. Nothing is written then, and nothing noted.
 pub fn write_row<P: Pages>(
     alloc: Global,
     pages: &mut P,
@@ -143,6 +148,8 @@ pub fn write_row<P: Pages>(
         → IsOpen P.Pages pages.old defs trx.old d → IsAtPlace place def.now d
         → IsWritable deletes place row.now d → IfErr result IsNoDamageOrLacks }
     ensures later { IfErr result NamesLaterOrLacks }
+    ensures failed { IfErr result (λ fault. SameTrx trx.old trx.new) }
+    ensures lacks { P.tells → Lacks result (P.contents pages.new ≡ P.contents pages.old) }
 {
     trx.reserve(1)?;
     let key = key_of(row);
