@@ -3,6 +3,7 @@
 ghost use Rattle.std.specs.Prelude.{◌≡◌, true, false, IfErr, IfOk, OnOk};
 ghost use Rattle.isp_image.specs.Databases.{Database};
 ghost use Rattle.isp_image.specs.Faults.{NamesLaterOrLacks};
+ghost use Rattle.isp_clustered.specs.Calls.{Lacks};
 ghost use Rattle.isp_page.specs.Steps.{IsNoDamageOrLacks};
 ghost use Rattle.isp_plain.specs.Lined.{is_lined_statement};
 ghost use Rattle.isp_tables.specs.Calls.{Keeps, Serves};
@@ -43,7 +44,7 @@ impl Work {
         ensures rolls { is_rollback statement ≡ true → result.progress.phase ≡ phase.RollingBack }
     {
         let _no = isp_stub();
-        let progress = Progress::start(alloc, statement);
+        let progress = Progress::start(alloc, statement, None, 0, 0);
         Work { alloc, progress }
     }
 
@@ -74,6 +75,8 @@ impl Work {
             → IfOk result (RollsBack P.Pages context.new.pages context.new.tables context.new.trx
             self.new.progress d) }
         ensures session { context.new.trx.session ≡ context.old.trx.session }
+        ensures lacks { P.tells → Lacks result (P.contents context.new.pages
+            ≡ P.contents context.old.pages) }
         ensures sound { P.tells → (start : Database)
             → IsAt P.Pages context.old.pages context.old.tables context.old.trx start
             self.old.progress → IfErr result IsNoDamageOrLacks }
