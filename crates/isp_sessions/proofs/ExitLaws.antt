@@ -1,7 +1,7 @@
 -- A run that goes on at the exits of calls: their results may be errors, and they speak of the session, the number and the pages
 -- that stand at their beginning.
 use Rattle.std.proofs.Common.{◌≡◌, ◌∙◌, ℕ, ◌+◌, ◌<◌, ◌≤◌, ap, sym, subst, List, [], ◌∷◌, ◌++◌, get_or, length, take, drop, arith, Result, Ok, Err}
-use Rattle.std.specs.Prelude.{OnErr, OnOk}
+use Rattle.std.specs.Prelude.{IfErr, OnErr, OnOk}
 use Rattle.std.proofs.lemmas.List.{drop_more, length-take-le, take-append-drop, take_more}
 use Rattle.isp_connection.specs.Answering.{meant}
 use Rattle.isp_connection.specs.Connections.{ConnectionState}
@@ -28,6 +28,9 @@ on_ok X result x is has = subst (λ (r : Result (Unit {0}) Fault). OnOk r X) is 
 
 pub on_err : (X : Type 0) (result : Result (Unit {0}) Fault) (e : Fault) → result ≡ Err e → OnErr result X → X
 on_err X result e is has = subst (λ (r : Result (Unit {0}) Fault). OnErr r X) is has
+
+pub if_err : (P : Fault → Type 0) (result : Result (Unit {0}) Fault) (e : Fault) → result ≡ Err e → IfErr result P → P e
+if_err P result e is has = subst (λ (r : Result (Unit {0}) Fault). IfErr r P) is has
 
 module _ {S : Type 0} (g : Ghosts S) where
   same_pages : (old mid : S) → g.shape mid ≡ g.shape old → (g.shape mid).pages ≡ (g.shape old).pages
