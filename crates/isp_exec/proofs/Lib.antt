@@ -1,0 +1,9 @@
+pub mod PlaceLaws
+pub mod RowLaws
+pub mod AtLaws
+pub mod FitLaws
+pub mod HeightLaws
+pub mod ReadAtLaws
+pub mod ChangeAtLaws
+pub mod NextLaws
+pub mod StatementLaws

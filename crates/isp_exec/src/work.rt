@@ -1,6 +1,6 @@
 //! A statement as a value: how it begins, and its steps.
 
-ghost use Rattle.std.specs.Prelude.{◌≡◌, true, false, IfErr, IfOk, OnOk};
+ghost use Rattle.std.specs.Prelude.{◌≡◌, IfErr, IfOk, OnOk};
 ghost use Rattle.isp_image.specs.Databases.{Database};
 ghost use Rattle.isp_image.specs.Faults.{NamesLaterOrLacks};
 ghost use Rattle.isp_clustered.specs.Calls.{Lacks};
@@ -10,13 +10,13 @@ ghost use Rattle.isp_tables.specs.Calls.{Keeps, Serves};
 ghost use Rattle.isp_tables.specs.Opened.{IsOpen};
 ghost use Rattle.isp_exec.specs.Events.{Begins, Falls, Goes, RollsBack};
 ghost use Rattle.isp_exec.specs.Standing.{IsAt, IsFit};
-ghost use Rattle.isp_exec.specs.Starting.{Suits};
+ghost use Rattle.isp_exec.specs.Starting.{Suits, place_by};
 ghost use Rattle.isp_work.specs.Works.{is_rollback};
 ghost use Rattle.isp_work.specs.declared.phase.Phase.TheVariants as phase;
 
 use crate::context::Context;
 use crate::step::Step;
-use crate::stub::isp_stub;
+use crate::stepping::step;
 use isp_page::{Fault, Pages};
 use isp_plain::Statement;
 use isp_tables::Tables;
@@ -28,6 +28,19 @@ use std::alloc::Global;
 pub struct Work {
     alloc: Global,
     progress: Progress,
+}
+
+// The place of the table that the statement is on.
+fn place_for(tables: &Tables, statement: &Statement) -> Option<usize>
+    ensures { result ≡ place_by tables.now statement.now }
+{
+    match statement {
+        Statement::Insert { table, .. } => tables.place_of(table),
+        Statement::Select { table, .. } => tables.place_of(table),
+        Statement::Update { table, .. } => tables.place_of(table),
+        Statement::Delete { table, .. } => tables.place_of(table),
+        _ => None,
+    }
 }
 
 impl Work {
@@ -43,8 +56,15 @@ impl Work {
             → Begins P.Pages context.now.pages context.now.tables context.now.trx d result.progress }
         ensures rolls { is_rollback statement ≡ true → result.progress.phase ≡ phase.RollingBack }
     {
-        let _no = isp_stub();
-        let progress = Progress::start(alloc, statement, None, 0, 0);
+        let place = place_for(&context.tables, &statement);
+        let budget = context.pages.pages().saturating_sub(1);
+        let progress = Progress::start(
+            alloc,
+            statement,
+            place,
+            context.trx.undo_count(),
+            budget,
+        );
         Work { alloc, progress }
     }
 
@@ -85,7 +105,12 @@ impl Work {
             → self.old.progress.phase ≡ phase.RollingBack → IfErr result IsNoDamageOrLacks }
         ensures later { IfErr result NamesLaterOrLacks }
     {
-        let _no = isp_stub();
-        Ok(Step::Event)
+        step(
+            self.alloc,
+            &mut context.pages,
+            &mut context.tables,
+            &mut context.trx,
+            &mut self.progress,
+        )
     }
 }

@@ -1,1 +1,0 @@
-unsigned isp_stub(void) { return 0; }
