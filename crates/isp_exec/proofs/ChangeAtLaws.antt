@@ -19,7 +19,8 @@ use Rattle.isp_work.proofs.StageLaws.{Behind, behind, behind_at, none_there}
 use Rattle.isp_tables.specs.Opened.{IsWritable}
 use Rattle.isp_exec.specs.Standing.{AreWritable, IsAt}
 use Rattle.isp_exec.specs.Changing.{ChangeNotes, ChangesOrFull, IsNextWritable}
-use Rattle.isp_exec.proofs.AtLaws.{done_at, full_at, over_at}
+use Rattle.isp_exec.specs.Events.{event_by, refusal_of_change}
+use Rattle.isp_exec.proofs.AtLaws.{Comes, done_at, full_at, over_at}
 use Rattle.isp_exec.proofs.RowLaws.{first_writable}
 
 -- ---- the next row, whatever became of it
@@ -46,24 +47,24 @@ module _ {S : Type 0} (g : Ghosts S) (old new : S) (defs : List TableDef) (trx t
   some_is : (b : Behind (rows_named work.statement work.rows) work.next) → next_change work ≡ Some (change_by (is_delete work.statement) work.place b.item)
   some_is b = ap (option_map (change_by (is_delete work.statement) work.place)) b.is_there
 
-  over_now : length (rows_named work.statement work.rows) ≤ work.next → ChangesOrFull g new defs trx_now (next_change work) at.db changed.Over → IsAt g new defs trx_now start (went_on work)
+  over_now : length (rows_named work.statement work.rows) ≤ work.next → ChangesOrFull g new defs trx_now (next_change work) at.db changed.Over → Comes g at new defs trx_now (went_on work) (event_by (refusal_of_change changed.Over))
   over_now most did =
       let over : nat_lt work.next (length (rows_named work.statement work.rows)) ≡ false = grind (arith, nat_tests, most) in
       let none = subst (λ (o : Option RowChange). ChangesOrFull g new defs trx_now o at.db changed.Over) (none_is over) did in
       over_at g old new defs trx trx_now start work at pages phase over none.0
 
-  done_now : work.next < length (rows_named work.statement work.rows) → ChangesOrFull g new defs trx_now (next_change work) at.db changed.Done → IsAt g new defs trx_now start (passed work)
+  done_now : work.next < length (rows_named work.statement work.rows) → ChangesOrFull g new defs trx_now (next_change work) at.db changed.Done → Comes g at new defs trx_now (passed work) (event_by (refusal_of_change changed.Done))
   done_now less did =
       let b = behind_at (rows_named work.statement work.rows) work.next less in
       done_at g old new defs trx trx_now start work at pages phase b (subst (λ (o : Option RowChange). ChangesOrFull g new defs trx_now o at.db changed.Done) (some_is b) did)
 
-  full_now : trx_now.count ≡ trx.count + 0 → ChangesOrFull g new defs trx_now (next_change work) at.db changed.Full → IsAt g new defs trx_now start (failed_by work FileFull trx_now.count)
+  full_now : trx_now.count ≡ trx.count + 0 → ChangesOrFull g new defs trx_now (next_change work) at.db changed.Full → Comes g at new defs trx_now (failed_by work FileFull trx_now.count) (event_by (refusal_of_change changed.Full))
   full_now notes did = by (nat_lt work.next (length (rows_named work.statement work.rows))) refl
     where
       same : trx_now.count ≡ trx.count
       same = omega (arith, notes)
 
-      by : (b : Bool) → nat_lt work.next (length (rows_named work.statement work.rows)) ≡ b → IsAt g new defs trx_now start (failed_by work FileFull trx_now.count)
+      by : (b : Bool) → nat_lt work.next (length (rows_named work.statement work.rows)) ≡ b → Comes g at new defs trx_now (failed_by work FileFull trx_now.count) (event_by (refusal_of_change changed.Full))
       by true less =
           let b = behind (rows_named work.statement work.rows) work.next less in
           let full = subst (λ (o : Option RowChange). ChangesOrFull g new defs trx_now o at.db changed.Full) (some_is b) did in
@@ -72,7 +73,7 @@ module _ {S : Type 0} (g : Ghosts S) (old new : S) (defs : List TableDef) (trx t
           let none = subst (λ (o : Option RowChange). ChangesOrFull g new defs trx_now o at.db changed.Full) (none_is over) did in
           absurd (never_over none.1)
 
-  pub changed_at : (done : Changed) → IsChangeOf work done → ChangeNotes trx trx_now done → ChangesOrFull g new defs trx_now (next_change work) at.db done → IsAt g new defs trx_now start (changed_by work done trx_now.count)
+  pub changed_at : (done : Changed) → IsChangeOf work done → ChangeNotes trx trx_now done → ChangesOrFull g new defs trx_now (next_change work) at.db done → Comes g at new defs trx_now (changed_by work done trx_now.count) (event_by (refusal_of_change done))
   changed_at changed.Over is notes did = over_now is did
   changed_at changed.Done is notes did = done_now is did
   changed_at changed.Full is notes did = full_now notes did

@@ -4,16 +4,14 @@ use Rattle.std.specs.Prelude.{nat_lt}
 use Rattle.std.proofs.lemmas.Bool.Decides.{nat_tests}
 use Rattle.isp_changes.specs.Stages.{is_insert}
 use Rattle.isp_plain.specs.declared.refusal.Refusal.{Refusal}
-use Rattle.isp_plain.specs.declared.refusal.Refusal.TheVariants.{FileFull, RowTooLarge}
+use Rattle.isp_plain.specs.declared.refusal.Refusal.TheVariants.{FileFull}
 use Rattle.isp_plain.specs.declared.statement.Reply.TheVariants as reply
 use Rattle.isp_plain.specs.declared.value.Row.{Row}
-use Rattle.isp_work.specs.Works.{IsLookOf, IsSmall, answered, failed_by, first_of, looked_by, made_by, passed, rows_left, rows_named, took, went_on}
-use Rattle.isp_work.specs.declared.found.Found.{Found}
-use Rattle.isp_work.specs.declared.found.Found.TheVariants as found
+use Rattle.isp_work.specs.Works.{IsLookOf, answered, failed_by, first_of, looked_by, made_by, passed, rows_left, rows_named, went_on}
 use Rattle.isp_work.specs.declared.found.Looked.{Looked}
 use Rattle.isp_work.specs.declared.found.Looked.TheVariants as looked
 use Rattle.isp_work.specs.declared.phase.Phase.{Phase as WorkPhase}
-use Rattle.isp_work.specs.declared.phase.Phase.TheVariants.{Creating, Reading, Looking, Changing, Undoing}
+use Rattle.isp_work.specs.declared.phase.Phase.TheVariants.{Creating, Looking, Changing, Undoing}
 use Rattle.isp_work.specs.declared.progress.Progress.{Progress}
 use Rattle.isp_writes.specs.Writing.{fewer}
 use Rattle.isp_exec.specs.Standing.{height, height_in}
@@ -21,7 +19,7 @@ use Rattle.isp_exec.proofs.RowLaws.{one_more}
 
 -- ---- what is left of a list
 
-dropped_most : (rows : List Row) (n : ℕ) → length (drop n rows) ≤ length rows
+pub dropped_most : (rows : List Row) (n : ℕ) → length (drop n rows) ≤ length rows
 dropped_most [] zero = omega arith
 dropped_most [] (suc n) = omega arith
 dropped_most (row ∷ rows) zero = omega arith
@@ -61,7 +59,7 @@ failed_height work refusal noted = by (nat_lt work.base noted)
 
 -- ---- it falls
 
-height_at : (work : Progress) (noted : ℕ) (p : WorkPhase) → work.phase ≡ p → height work noted ≡ height_in work (noted - work.base) p
+pub height_at : (work : Progress) (noted : ℕ) (p : WorkPhase) → work.phase ≡ p → height work noted ≡ height_in work (noted - work.base) p
 height_at work noted p is = ap (height_in work (noted - work.base)) is
 
 pub made_falls : (work : Progress) (made : Bool) (noted : ℕ) → work.phase ≡ Creating → height (made_by work made noted) noted < height work noted
@@ -69,16 +67,6 @@ made_falls work true noted phase = let had = height_at work noted Creating phase
 made_falls work false noted phase =
     let had = height_at work noted Creating phase in
     let now = failed_height work FileFull noted in omega (arith, had, now)
-
-pub took_falls : (work : Progress) (f : Found) (noted : ℕ) → work.phase ≡ Reading → IsSmall work.statement f → height (took work f noted) noted < height work noted
-took_falls work (found.Answer rows) noted phase small = let had = height_at work noted Reading phase in omega (arith, had)
-took_falls work (found.Changing rows) noted phase small =
-    let had = height_at work noted Reading phase in
-    let now = went_height (record work { rows = rows }) noted in
-    let most = dropped_most (rows_named work.statement rows) work.next in omega (arith, had, now, most, small)
-took_falls work found.TooLarge noted phase small =
-    let had = height_at work noted Reading phase in
-    let now = failed_height work RowTooLarge noted in omega (arith, had, now)
 
 pub looked_falls : (work : Progress) (l : Looked) (noted : ℕ) → work.phase ≡ Looking → IsLookOf work l → height (looked_by work l noted) noted < height work noted
 looked_falls work looked.Over noted phase over =

@@ -1,9 +1,16 @@
 pub mod PlaceLaws
 pub mod RowLaws
+pub mod AnswerLaws
 pub mod AtLaws
 pub mod FitLaws
 pub mod HeightLaws
+pub mod LeafLaws
+pub mod PieceLaws
 pub mod ReadAtLaws
+pub mod ReadFitLaws
+pub mod StartAtLaws
 pub mod ChangeAtLaws
+pub mod GoesLaws
 pub mod NextLaws
+pub mod RollLaws
 pub mod StatementLaws

@@ -3,14 +3,11 @@ use Rattle.std.proofs.Common.{◌≡◌, ℕ, ◌+◌, Bool, true, false, length
 use Rattle.std.specs.Prelude.{nat_lt}
 use Rattle.isp_changes.specs.Stages.{is_insert}
 use Rattle.isp_plain.specs.declared.refusal.Refusal.{Refusal}
-use Rattle.isp_plain.specs.declared.refusal.Refusal.TheVariants.{FileFull, RowTooLarge}
+use Rattle.isp_plain.specs.declared.refusal.Refusal.TheVariants.{FileFull}
 use Rattle.isp_plain.specs.declared.statement.Reply.TheVariants as reply
-use Rattle.isp_plain.specs.declared.statement.Statement.{Statement}
-use Rattle.isp_work.specs.Works.{answered, changed_by, failed_by, first_of, looked_by, made_by, passed, rows_named, took, went_on}
+use Rattle.isp_work.specs.Works.{answered, changed_by, failed_by, first_of, looked_by, made_by, rows_named, went_on}
 use Rattle.isp_work.specs.declared.found.Changed.{Changed}
 use Rattle.isp_work.specs.declared.found.Changed.TheVariants as changed
-use Rattle.isp_work.specs.declared.found.Found.{Found}
-use Rattle.isp_work.specs.declared.found.Found.TheVariants as found
 use Rattle.isp_work.specs.declared.found.Looked.{Looked}
 use Rattle.isp_work.specs.declared.found.Looked.TheVariants as looked
 use Rattle.isp_work.specs.declared.phase.Phase.TheVariants.{Undoing}
@@ -33,11 +30,6 @@ went_keeps work = by (nat_lt work.next (length (rows_named work.statement work.r
 pub made_keeps : (work : Progress) (made : Bool) (noted : ℕ) → (made_by work made noted).statement ≡ work.statement
 made_keeps work true noted = refl
 made_keeps work false noted = failed_keeps work FileFull noted
-
-pub took_keeps : (work : Progress) (there : Found) (noted : ℕ) → (took work there noted).statement ≡ work.statement
-took_keeps work (found.Answer rows) noted = refl
-took_keeps work (found.Changing rows) noted = went_keeps (record work { rows = rows })
-took_keeps work found.TooLarge noted = failed_keeps work RowTooLarge noted
 
 pub looked_keeps : (work : Progress) (at : Looked) (noted : ℕ) → (looked_by work at noted).statement ≡ work.statement
 looked_keeps work looked.Over noted = went_keeps work

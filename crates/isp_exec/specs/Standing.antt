@@ -14,15 +14,18 @@ use Rattle.isp_plain.specs.Lined.{is_lined_row, is_lined_statement}
 use Rattle.isp_plain.specs.Values.{key_of}
 use Rattle.isp_plain.specs.declared.statement.Statement.{Statement}
 use Rattle.isp_plain.specs.declared.value.Row.{Row}
+use Rattle.isp_plain.specs.declared.value.Schema.{Schema}
 use Rattle.isp_trx.specs.Transactions.{TrxState}
 use Rattle.isp_trx_laws.specs.FileStages.{IsStageOf}
 use Rattle.isp_writes.specs.Causes.{FillsUp}
 use Rattle.isp_tables.specs.Creations.{IsCreatable}
 use Rattle.isp_tables.specs.Opened.{IsOpen, Stands}
-use Rattle.isp_scan.specs.Leaves.{IsBehind, leaf_pieces, named_key}
+use Rattle.isp_scan.specs.Keys.{named_key}
+use Rattle.isp_scan.specs.Leaves.{HasPiece, IsBehind, IsLeafFound, Piece, leaf_pieces}
 use Rattle.isp_scan.specs.Readings.{AreFoundFor, IsPutRow, SetsFitIn}
+use Rattle.isp_scan.specs.declared.leaves.LeafFound.{LeafFound}
 use Rattle.isp_work.specs.Finding.{reads}
-use Rattle.isp_work.specs.Works.{AreReadAs, Pieces, is_delete, rows_left, rows_named, stage_of}
+use Rattle.isp_work.specs.Works.{AreReadAs, AreReadOf, Pieces, is_delete, rows_left, rows_named, stage_of}
 use Rattle.isp_work.specs.declared.found.Found.TheVariants as found
 use Rattle.isp_work.specs.declared.phase.Phase.{Phase as WorkPhase}
 use Rattle.isp_work.specs.declared.phase.Phase.TheVariants.{Creating, Reading, Looking, Changing, Undoing, RollingBack, Ready}
@@ -58,10 +61,10 @@ IsFitIn pages defs work Reading = IsReading pages defs work
 IsFitIn pages defs work Looking = IsLooking defs work
 IsFitIn pages defs work Changing = IsChanging defs work
 IsFitIn pages defs work (Undoing refusal) = Unit {0}
-IsFitIn pages defs work RollingBack = Unit {0}
+IsFitIn pages defs work RollingBack = work.base ≡ 0
 IsFitIn pages defs work Ready = Unit {0}
 
--- what it is to read and to write fits the columns of its table
+-- what it is to read and to write fits the columns of its table; a ROLLBACK takes back all that is noted
 abbrev pub IsFit : ℕ → List TableDef → Progress → Type 0
 IsFit pages defs work = IsFitIn pages defs work work.phase
 
@@ -113,23 +116,31 @@ pub record Leads (pages : ℕ) (start d : Database) (statement : Statement) (sta
   pub cause : full ≡ true → FillsUp pages start d
 
 -- the pieces of its table that a statement reads: the row of the key that its condition names, or all leaves
-abbrev pub pieces_by : Option ℤ → FileTable → List (List (ℤ × Row))
+abbrev pub pieces_by : Option ℤ → FileTable → List Piece
 pieces_by (Some key) t = found_at (shown t.rows) key ∷ []
 pieces_by None t = leaf_pieces t
 
-abbrev pub pieces_of : FileTable → Statement → List (List (ℤ × Row))
+abbrev pub pieces_of : FileTable → Statement → List Piece
 pieces_of t statement = pieces_by (named_key t.def statement) t
 
 -- those that are left where it has read none; where it has read the leaf on this page
-abbrev pub IsLeft : FileTable → Statement → Option PageNo → List (List (ℤ × Row)) → Type 0
+abbrev pub IsLeft : FileTable → Statement → Option PageNo → List Piece → Type 0
 IsLeft t statement None left = left ≡ pieces_of t statement
 IsLeft t statement (Some page) left = IsBehind t (Some page.0) left
 
--- The statement has read its table so far: what it keeps are the rows read, and of the leaves that are left it may read all.
+-- this is found in the first of the pieces that are left
+abbrev pub IsFoundBehind : Schema → Statement → FileTable → List Piece → LeafFound → Type 0
+IsFoundBehind schema statement t [] leaf = Unit {0}
+IsFoundBehind schema statement t (piece ∷ left) leaf = IsLeafFound schema statement t piece left leaf
+
+-- The statement has read its table so far: what it keeps are the rows read, the first of those that hold, and of the leaves that are
+-- left, one at least, it may read all.
 pub record HasRead (d : Database) (work : Progress) (pieces : Pieces) : Type 0 where
   pub table : FileTable
   pub is_there : slice_get d.tables work.place ≡ Some table
   pub kept : AreReadAs work.statement pieces.read work.rows
+  pub whole : AreReadOf work.statement (shown table.rows) pieces
+  pub more : HasPiece pieces.left
   pub left : IsLeft table work.statement work.after pieces.left
   pub few : length pieces.left ≤ work.budget + 1
 

@@ -91,4 +91,3 @@ pub(crate) fn change_next<P: Pages>(
         None => Err(no_table()),
     }
 }
-

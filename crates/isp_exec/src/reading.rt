@@ -11,12 +11,12 @@ ghost use Rattle.isp_page.specs.Steps.{IsNoDamageOrLacks};
 ghost use Rattle.isp_page.specs.declared.fault.Fault.TheVariants.{Store};
 ghost use Rattle.isp_page.specs.declared.fault.StoreFault.TheVariants.{Damaged};
 ghost use Rattle.isp_plain.specs.declared.value.Row.{Row};
-ghost use Rattle.isp_scan.specs.Leaves.{HasPiece, IsFoundBehind};
+ghost use Rattle.isp_scan.specs.Leaves.{HasPiece};
 ghost use Rattle.isp_scan.specs.Readings.{AreFoundFor, SetsFitIn};
 ghost use Rattle.isp_scan.specs.Scanning.{HasFileTable};
 ghost use Rattle.isp_tables.specs.Calls.{Serves};
 ghost use Rattle.isp_work.specs.Works.{IsLookOf, IsNotOver, look_by, look_of, next_row};
-ghost use Rattle.isp_exec.specs.Standing.{IsLeft, IsLooking, IsReading};
+ghost use Rattle.isp_exec.specs.Standing.{IsFoundBehind, IsLeft, IsLooking, IsReading};
 
 use isp_catalog::TableDef;
 use isp_format::{CATALOGUE_RULE, PageNo, SPACE_PAGE, WALK_RULE};
@@ -51,7 +51,8 @@ fn read_first<P: Pages>(
     ensures contents { P.tells → OnOk result (P.contents pages.new ≡ P.contents pages.old) }
     ensures mini { OnOk result (P.mini pages.new ≡ P.mini pages.old) }
     ensures rows { IfOk result (λ leaf. AreFoundFor def.now.schema work.now.statement leaf.found) }
-    ensures inside { IfOk result (λ leaf. IfSome leaf.next (λ page. page.0 < (P.shape pages.old).pages)) }
+    ensures inside { IfOk result
+        (λ leaf. IfSome leaf.next (λ page. page.0 < (P.shape pages.old).pages)) }
     ensures found { P.tells → (t : FileTable) (left : List (List (ℤ × Row)))
         → HasFileTable P.Pages pages.old def.now t
         → IsLeft t work.now.statement None left
@@ -87,7 +88,8 @@ fn read_piece<P: Pages>(
     ensures contents { P.tells → OnOk result (P.contents pages.new ≡ P.contents pages.old) }
     ensures mini { OnOk result (P.mini pages.new ≡ P.mini pages.old) }
     ensures rows { IfOk result (λ leaf. AreFoundFor def.now.schema work.now.statement leaf.found) }
-    ensures inside { IfOk result (λ leaf. IfSome leaf.next (λ page. page.0 < (P.shape pages.old).pages)) }
+    ensures inside { IfOk result
+        (λ leaf. IfSome leaf.next (λ page. page.0 < (P.shape pages.old).pages)) }
     ensures found { P.tells → (t : FileTable) (left : List (List (ℤ × Row)))
         → HasFileTable P.Pages pages.old def.now t
         → IsLeft t work.now.statement work.now.after left
@@ -126,7 +128,8 @@ pub(crate) fn read_next<P: Pages>(
     ensures mini { OnOk result (P.mini pages.new ≡ P.mini pages.old) }
     ensures rows { (def : TableDef) → slice_get tables.now work.now.place ≡ Some def
         → IfOk result (λ leaf. AreFoundFor def.schema work.now.statement leaf.found) }
-    ensures inside { IfOk result (λ leaf. IfSome leaf.next (λ page. page.0 < (P.shape pages.old).pages)) }
+    ensures inside { IfOk result
+        (λ leaf. IfSome leaf.next (λ page. page.0 < (P.shape pages.old).pages)) }
     ensures budget { IfOk result (λ leaf. IfSome leaf.next (λ page. 1 ≤ work.now.budget)) }
     ensures found { P.tells → (def : TableDef) (t : FileTable) (left : List (List (ℤ × Row)))
         → slice_get tables.now work.now.place ≡ Some def → HasFileTable P.Pages pages.old def t
@@ -210,4 +213,3 @@ pub(crate) fn look_next<P: Pages>(
         None => Err(no_table()),
     }
 }
-

@@ -236,11 +236,7 @@ fn step_undoing<P: Pages>(
 }
 
 // Takes the newest change of the transaction back, if there is one.
-fn step_rolling_back<P: Pages>(
-    pages: &mut P,
-    tables: &Tables,
-    trx: &mut Trx,
-) -> Result<Step, Fault>
+fn step_rolling_back<P: Pages>(pages: &mut P, tables: &Tables, trx: &mut Trx) -> Result<Step, Fault>
     requires serves { Serves P.Pages pages.old tables.now }
     ensures kept { Keeps P.Pages pages.old pages.new result }
     ensures serves { OnOk result (Serves P.Pages pages.new tables.now) }

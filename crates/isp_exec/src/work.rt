@@ -1,6 +1,6 @@
 //! A statement as a value: how it begins, and its steps.
 
-ghost use Rattle.std.specs.Prelude.{◌≡◌, IfErr, IfOk, OnOk};
+ghost use Rattle.std.specs.Prelude.{◌≡◌, true, false, IfErr, IfOk, OnOk};
 ghost use Rattle.isp_image.specs.Databases.{Database};
 ghost use Rattle.isp_image.specs.Faults.{NamesLaterOrLacks};
 ghost use Rattle.isp_clustered.specs.Calls.{Lacks};
@@ -52,19 +52,13 @@ impl Work {
         ensures begins { P.tells → (d : Database)
             → IsOpen P.Pages context.now.pages context.now.tables context.now.trx d
             → Suits context.now.tables statement → is_lined_statement statement ≡ true
-            → is_rollback statement ≡ false
-            → Begins P.Pages context.now.pages context.now.tables context.now.trx d result.progress }
+            → is_rollback statement ≡ false → Begins P.Pages context.now.pages context.now.tables
+            context.now.trx d result.progress }
         ensures rolls { is_rollback statement ≡ true → result.progress.phase ≡ phase.RollingBack }
     {
         let place = place_for(&context.tables, &statement);
         let budget = context.pages.pages().saturating_sub(1);
-        let progress = Progress::start(
-            alloc,
-            statement,
-            place,
-            context.trx.undo_count(),
-            budget,
-        );
+        let progress = Progress::start(alloc, statement, place, context.trx.undo_count(), budget);
         Work { alloc, progress }
     }
 
@@ -76,14 +70,16 @@ impl Work {
     /// Disk; want of memory, which leaves the contents as they were; or Damaged, where the pages aren't those of a kept file.
     pub fn step<P: Pages>(&mut self, context: &mut Context<P>) -> Result<Step, Fault>
         requires serves { Serves P.Pages context.old.pages context.old.tables }
-        requires fit { IsFit (P.shape context.old.pages).pages context.old.tables self.old.progress }
+        requires fit { IsFit (P.shape context.old.pages).pages context.old.tables
+            self.old.progress }
         ensures kept { Keeps P.Pages context.old.pages context.new.pages result }
         ensures serves { OnOk result (Serves P.Pages context.new.pages context.new.tables) }
         ensures fit { OnOk result (IsFit (P.shape context.new.pages).pages context.new.tables
             self.new.progress) }
         ensures falls { IfOk result (Falls self.old.progress context.old.trx self.new.progress
             context.new.trx) }
-        ensures statement { OnOk result (self.new.progress.statement ≡ self.old.progress.statement) }
+        ensures statement { OnOk result (self.new.progress.statement
+            ≡ self.old.progress.statement) }
         ensures goes { P.tells → (start : Database)
             → (at : IsAt P.Pages context.old.pages context.old.tables context.old.trx start
             self.old.progress)

@@ -1,11 +1,13 @@
-use Rattle.std.proofs.Common.{rules, sym, ◌∙◌, ap, subst}
+use Rattle.std.proofs.Common.{rules, ◌<◌, ℕ, sym, ◌∙◌, ap, subst}
 use Rattle.isp_page.specs.State.{FileShape}
 use Rattle.isp_work.specs.Works.{made_by}
 use Rattle.isp_work.specs.declared.progress.Progress.{Progress}
 use Rattle.isp_tables.specs.Creations.{IsCreatable}
-use Rattle.isp_exec.specs.Standing.{IsAt}
+use Rattle.isp_exec.specs.Standing.{IsFit, height}
+use Rattle.isp_exec.proofs.AnswerLaws.{given_by}
 use Rattle.isp_exec.proofs.AtLaws.{created_at}
-use Rattle.isp_exec.proofs.StatementLaws.{made_keeps}
+use Rattle.isp_exec.proofs.GoesLaws.{goes_as, handed_by, handed_fit, handed_height, handed_made, hands_out}
+use Rattle.isp_exec.proofs.HeightLaws.{made_falls}
 use Rattle.isp_exec.proofs.stepping.step_creating.Goals as goal
 
 pub returns-in_err-made-clause-sound : goal.returns-in_err-made-clause-sound
@@ -13,14 +15,36 @@ returns-in_err-made-clause-sound g c tells start at =
     let sound = c.in_err-made.ensures.sound tells c.args.trx.now at.db at.opened in
     search (rules, sound, c.from_residual.ensures)
 
-pub returns-clause-stands : goal.returns-clause-stands
-returns-clause-stands g c tells start at =
+pub returns-clause-goes : goal.returns-clause-goes
+returns-clause-goes g c tells start at =
     let work = c.args.work.now in
     let trx = c.args.trx.now in
+    let old = c.args.pages.now in
+    let new = c.create.new.pages in
+    let tables = c.create.new.tables in
+    let made = c.in_ok-made.made in
     let pages = ap (λ (shape : FileShape). shape.pages) c.in_ok-made.ensures.kept.same_shape in
-    subst (λ (w : Progress). IsAt g.P.Pages c.create.new.pages c.create.new.tables trx start w) (sym (c.make_on.ensures ∙ ap (made_by work c.in_ok-made.made) c.undo_count.ensures))
-    (created_at g.P.Pages c.args.pages.now c.create.new.pages c.args.tables.now c.create.new.tables trx start work at pages c.requires.phase c.statement.result.now c.in_ok-made.made (sym c.statement.ensures)
-    (subst (IsCreatable c.args.tables.now) (sym c.statement.ensures) c.requires.fit) (c.in_ok-made.ensures.created tells trx at.db at.opened))
+    let is = c.make_on.ensures ∙ ap (made_by work made) c.undo_count.ensures in
+    goes_as g.P.Pages old c.args.tables.now trx start work at new tables trx _ (handed_by (made_by work made trx.count)) _ (given_by (made_by work made trx.count))
+    (c.hand_out.ensures.rest ∙ ap handed_by is) (c.hand_out.ensures.result ∙ ap given_by is)
+    (hands_out g.P.Pages old c.args.tables.now trx start work at new tables trx (made_by work made trx.count)
+    (created_at g.P.Pages old new c.args.tables.now tables trx start work at pages c.requires.phase c.statement.result.now made (sym c.statement.ensures)
+    (subst (IsCreatable c.args.tables.now) (sym c.statement.ensures) c.requires.fit) (c.in_ok-made.ensures.created tells trx at.db at.opened)))
+
+pub returns-clause-fit : goal.returns-clause-fit
+returns-clause-fit g c =
+    let work = c.args.work.now in
+    let made = c.in_ok-made.made in
+    subst (IsFit _ c.create.new.tables) (sym (c.hand_out.ensures.rest ∙ ap handed_by c.make_on.ensures)) (handed_fit _ c.create.new.tables work made c.undo_count.result)
+
+pub returns-clause-falls : goal.returns-clause-falls
+returns-clause-falls g c on =
+    let work = c.args.work.now in
+    let trx = c.args.trx.now in
+    let made = c.in_ok-made.made in
+    let is = c.hand_out.ensures.rest ∙ ap handed_by (c.make_on.ensures ∙ ap (made_by work made) c.undo_count.ensures) in
+    subst (λ (n : ℕ). n < height work trx.count) (sym (ap (λ (w : Progress). height w trx.count) is ∙ handed_height (made_by work made trx.count) trx.count))
+    (made_falls work made trx.count c.requires.phase)
 
 pub returns-clause-statement : goal.returns-clause-statement
-returns-clause-statement g c = ap (λ (w : Progress). w.statement) c.make_on.ensures ∙ made_keeps c.args.work.now c.in_ok-made.made _
+returns-clause-statement g c = ap (λ (w : Progress). w.statement) (c.hand_out.ensures.rest ∙ ap handed_by c.make_on.ensures) ∙ handed_made c.args.work.now c.in_ok-made.made _

@@ -2,7 +2,7 @@ use Rattle.std.proofs.Common.{slice_get, sym, ◌∙◌, ap}
 use Rattle.isp_tables.proofs.TableLaws.{at_place}
 use Rattle.isp_work.specs.Works.{rows_named}
 use Rattle.isp_exec.proofs.NextLaws.{none_left, row_changed, row_writable}
-use Rattle.isp_exec.proofs.stepping.change_next.Goals as goal
+use Rattle.isp_exec.proofs.changing.change_next.Goals as goal
 
 pub returns-in-Some-row-clause-changed : goal.returns-in-Some-row-clause-changed
 returns-in-Some-row-clause-changed g c tells d opened writable =

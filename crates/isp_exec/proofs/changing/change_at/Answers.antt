@@ -1,7 +1,7 @@
 use Rattle.std.proofs.Common.{rules, Bool, subst}
 use Rattle.isp_work.specs.Works.{change_by}
 use Rattle.isp_writes.specs.Writing.{WritesOrFull}
-use Rattle.isp_exec.proofs.stepping.change_at.Goals as goal
+use Rattle.isp_exec.proofs.changing.change_at.Goals as goal
 
 pub returns-in_err-write_row-clause-sound : goal.returns-in_err-write_row-clause-sound
 returns-in_err-write_row-clause-sound g c tells defs d place opened at writable =
