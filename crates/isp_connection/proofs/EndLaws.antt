@@ -1,17 +1,10 @@
 -- How a statement ends: what it is answered and leaves, committed or not.
-use Rattle.std.proofs.Common.{◌≡◌, ℕ, ◌<◌, Bool, true, false, List, [], ◌∷◌, ◌++◌, length, map, refl, sym, ◌∙◌, ap, subst, arith, if◌then◌else◌}
-use Rattle.std.specs.Prelude.{Result, Ok, Err, IfErr, IfOk}
+use Rattle.std.proofs.Common.{◌≡◌, ℕ, ◌<◌, Bool, true, false, List, [], ◌∷◌, length, map, refl, sym, ◌∙◌, ap, subst, if◌then◌else◌}
+use Rattle.std.specs.Prelude.{Result, Ok, Err, IfErr}
 use Rattle.isp_catalog.specs.declared.table.TableDef.{TableDef}
-use Rattle.isp_changes.specs.Changes.{RowChange, after_change, after_changes}
-use Rattle.isp_changes.specs.Stages.{BringsBack, found_full, outcome_by, ready}
+use Rattle.isp_changes.specs.Changes.{after_changes}
 use Rattle.isp_writes.specs.Causes.{FillsUp}
-use Rattle.isp_tables.specs.Calls.{AreInside, Serves}
 use Rattle.isp_tables.specs.Opened.{IsOpen, defs_in}
-use Rattle.isp_exec.specs.Standing.{IsAt, IsFit}
-use Rattle.isp_exec.specs.Starting.{Suits, place_by}
-use Rattle.isp_exec.proofs.FitLaws.{start_fit}
-use Rattle.isp_exec.proofs.ReadAtLaws.{start_at_file, start_statement}
-use Rattle.isp_writes.specs.Writing.{DidUndo}
 use Rattle.isp_chained.specs.Courses.{Reaches}
 use Rattle.isp_format.specs.Ranges.{Contents}
 use Rattle.isp_format.specs.Undo.{undo_slots}
@@ -22,12 +15,9 @@ use Rattle.isp_chained.specs.Laws.{OneChain}
 use Rattle.isp_chained.proofs.AloneLaws.{alone_none, alone_one}
 use Rattle.isp_chained.proofs.PlainLaws.{chained_plain}
 use Rattle.isp_chained.proofs.CourseLaws.{reaches_more, reaches_on, reaches_self}
-use Rattle.isp_page.specs.declared.fault.Fault.{Fault}
 use Rattle.isp_page.specs.declared.pages.Pages.{Ghosts}
-use Rattle.isp_plain.specs.Does.{Outcome, answered, does}
-use Rattle.isp_plain.specs.Lined.{is_lined_statement}
+use Rattle.isp_plain.specs.Does.{does}
 use Rattle.isp_plain.specs.Tables.{Table}
-use Rattle.isp_plain.specs.declared.refusal.Refusal.{Refusal}
 use Rattle.isp_plain.specs.declared.refusal.Refusal.TheVariants.{FileFull}
 use Rattle.isp_plain.specs.declared.statement.Reply.{Reply}
 use Rattle.isp_plain.specs.declared.statement.Reply.TheVariants as reply
@@ -40,31 +30,9 @@ use Rattle.isp_trx.specs.Writes.{CanCommit, DidCommit}
 use Rattle.isp_trx.specs.declared.keys.RowKey.{RowKey}
 use Rattle.isp_trx_laws.specs.Written.{AreWritten}
 use Rattle.isp_trx_laws.proofs.MarkLaws.{commit_adds_none, none_written}
-use Rattle.isp_work.specs.Starting.{start_of}
-use Rattle.isp_work.specs.Works.{is_ready, phase_at}
-use Rattle.isp_work.specs.declared.phase.Phase.{Phase as WorkPhase}
-use Rattle.isp_work.specs.declared.phase.Phase.TheVariants.{Creating, Reading, Looking, Changing, Undoing, Ready}
-use Rattle.isp_work.specs.declared.work.Work.{Work}
-use Rattle.isp_connection.specs.Answering.{Answered, Comes, CommitsAll, Executed, GoesBack, Settles, is_create, reply_or_full}
-use Rattle.isp_connection.specs.Connections.{ConnectionState, Holds, state_of}
-use Rattle.isp_connection.specs.declared.connection.Connection.TheInside.{Inside}
-
--- a connection as a value, taken apart
-module _ {S : Type 0} (g : Ghosts S) (now : S) (i : Inside) (c : ConnectionState) (is : state_of i ≡ c) where
-  pub open_inside : (d : Database) → IsOpen g now c.defs c.trx d → IsOpen g now i.tables i.trx d
-  open_inside d opened = subst (λ (s : ConnectionState). IsOpen g now s.defs s.trx d) (sym is) opened
-
-  pub hold_inside : (state : State) (d : Database) → Holds g now c state d → Holds g now (state_of i) state d
-  hold_inside state d h = subst (λ (s : ConnectionState). Holds g now s state d) (sym is) h
-
-  -- a statement begins on it
-  pub fit_inside : (statement : Statement) (work : Work) → work ≡ start_of statement (i.trx.count) (place_by i.tables statement) → Suits c.defs statement → IsFit i.tables work
-  fit_inside statement work begun suits =
-      subst (λ (w : Work). IsFit i.tables w) (sym begun) (start_fit i.tables statement (i.trx.count) (subst (λ (s : ConnectionState). Suits s.defs statement) (sym is) suits))
-
-  pub start_inside : (state : State) (d : Database) (statement : Statement) (work : Work) → work ≡ start_of statement (i.trx.count) (place_by i.tables statement) → Holds g now c state d → is_lined_statement statement ≡ true → IsAt g now i.tables i.trx d work
-  start_inside state d statement work begun h lined =
-      subst (λ (w : Work). IsAt g now i.tables i.trx d w) (sym begun) (start_at_file g now i.tables i.trx d statement (open_inside d h.opened) lined)
+use Rattle.isp_work.specs.Works.{is_rollback}
+use Rattle.isp_connection.specs.Answering.{Answered, Comes, CommitsAll, GoesBack, IsDone, Settles, is_create, reply_or_full, state_or_full}
+use Rattle.isp_connection.specs.Connections.{ConnectionState, Holds}
 
 -- ---- a connection is opened
 
@@ -103,80 +71,6 @@ opens g old new session defs trx d pages contents kept tidy are slot fresh =
       present = refl;
       committed_are = ap (λ (l : List FileImage). after_changes (tables_of d) (map back_of l)) none;
     }
-
--- the tables are served as before
-pub still_serves : {S : Type 0} (g : Ghosts S) (old new : S) (defs : List TableDef) → Serves g old defs → (g.shape new).pages ≡ (g.shape old).pages → g.usable new ≡ true → (g.mini new).is_begun ≡ false → Serves g new defs
-still_serves g old new defs serves pages usable none = record {
-  usable = usable;
-  none = none;
-  inside = subst (λ (n : ℕ). AreInside n defs) (sym pages) serves.inside;
-  keyed = serves.keyed;
-}
-
--- ---- old rows put back
-
-after_joined : (tables : List Table) (xs ys : List RowChange) → after_changes tables (xs ++ ys) ≡ after_changes (after_changes tables xs) ys
-after_joined tables [] ys = refl
-after_joined tables (x ∷ xs) ys = after_joined (after_change tables x) xs ys
-
-map_joined : (xs ys : List FileImage) → map back_of (xs ++ ys) ≡ map back_of xs ++ map back_of ys
-map_joined [] ys = refl
-map_joined (x ∷ xs) ys = ap (λ (l : List RowChange). back_of x ∷ l) (map_joined xs ys)
-
-committed_stays : (start db : Database) (since : List FileImage) (noted : List RowChange) → db.images ≡ since ++ start.images → noted ≡ map back_of since → after_changes (tables_of db) noted ≡ tables_of start → committed db ≡ committed start
-committed_stays start db since noted images is back =
-    ap (λ (l : List FileImage). after_changes (tables_of db) (map back_of l)) images
-    ∙ ap (after_changes (tables_of db)) (map_joined since start.images)
-    ∙ after_joined (tables_of db) (map back_of since) (map back_of start.images)
-    ∙ ap (λ (ts : List Table). after_changes ts (map back_of start.images)) (ap (after_changes (tables_of db)) (sym is) ∙ back)
-
-brought_back : (s : Statement) (answer : Reply) (first tables : List Table) (noted : List RowChange) → is_create s ≡ false → BringsBack (ready answer) s first tables noted → after_changes tables noted ≡ first
-brought_back (Create name schema) answer first tables noted not back = cc
-brought_back (Insert name rows) answer first tables noted not back = back
-brought_back (Select name columns w) answer first tables noted not back = back
-brought_back (Update name sets w) answer first tables noted not back = back
-brought_back (Delete name w) answer first tables noted not back = back
-brought_back Begin answer first tables noted not back = back
-brought_back Commit answer first tables noted not back = back
-brought_back Rollback answer first tables noted not back = back
-brought_back (Refused refusal) answer first tables noted not back = back
-
--- ---- a statement that is ready
-
-ready_is : (p : WorkPhase) → is_ready p ≡ true → p ≡ Ready
-ready_is Creating is = cc
-ready_is Reading is = cc
-ready_is Looking is = cc
-ready_is Changing is = cc
-ready_is (Undoing refusal) is = cc
-ready_is Ready is = refl
-
-reply_if : (full : Bool) (first : List Table) (o : Outcome) → (if full then found_full first else o).reply ≡ (if full then reply.Err FileFull else o.reply)
-reply_if true first o = refl
-reply_if false first o = refl
-
-tables_if : (full : Bool) (first : List Table) (o : Outcome) → (if full then found_full first else o).tables ≡ (if full then first else o.tables)
-tables_if true first o = refl
-tables_if false first o = refl
-
-module _ {S : Type 0} (g : Ghosts S) (now : S) (defs : List TableDef) (trx : TrxState) (start : Database) (work : Work) (at : IsAt g now defs trx start work) (is : is_ready work.phase ≡ true) where
-  phase : work.phase ≡ Ready
-  phase = ready_is work.phase is
-
-  ended : answered (tables_of at.db) work.reply ≡ (if at.leads.full then found_full (tables_of start) else does (tables_of start) work.statement)
-  ended = sym (ap (λ (p : WorkPhase). outcome_by work.statement (tables_of start) (tables_of at.db) (phase_at (tables_of at.db) work p)) phase) ∙ at.leads.leads
-
-  pub reply_is : work.reply ≡ (if at.leads.full then reply.Err FileFull else (does (tables_of start) work.statement).reply)
-  reply_is = ap (λ (o : Outcome). o.reply) ended ∙ reply_if at.leads.full (tables_of start) (does (tables_of start) work.statement)
-
-  pub tables_are : tables_of at.db ≡ (if at.leads.full then tables_of start else (does (tables_of start) work.statement).tables)
-  tables_are = ap (λ (o : Outcome). o.tables) ended ∙ tables_if at.leads.full (tables_of start) (does (tables_of start) work.statement)
-
-  pub committed_same : is_create work.statement ≡ false → committed at.db ≡ committed start
-  committed_same not =
-      committed_stays start at.db at.stage.since at.noted at.stage.images at.stage.noted
-      (brought_back work.statement work.reply (tables_of start) (tables_of at.db) at.noted not
-      (subst (λ (p : WorkPhase). BringsBack (phase_at (tables_of at.db) work p) work.statement (tables_of start) (tables_of at.db) at.noted) phase at.way.back))
 
 -- ---- where the run stands
 
@@ -234,75 +128,86 @@ at_rest g now c state d h outside =
 fills_later : (pages : ℕ) (start d after : Database) → FillsUp pages start d → Reaches pages d after → FillsUp pages start after
 fills_later pages start d after f more = record { at = f.at; before = f.before; behind = reaches_on pages f.at d after f.behind more; full = f.full }
 
--- ---- the statement is done
+-- ---- a statement is answered
 
--- what is known of a statement that is ready, and of what became of its transaction
-module _ {S : Type 0} (g : Ghosts S) (mid now : S) (c : ConnectionState) (trx : TrxState) (state : State) (d : Database) (work : Work) (at : IsAt g mid c.defs trx d work) (is : is_ready work.phase ≡ true)
-    (statement : Statement) (stated : work.statement ≡ statement) (present : tables_of d ≡ state.present) (rest : state.inside ≡ false → state.committed ≡ state.present) (stand : committed d ≡ state.committed)
+-- one that ends no transaction and begins none
+pub no_rollback : (s : Statement) → effect_by s ≡ stays → is_rollback s ≡ false
+no_rollback (Create name schema) no_end = refl
+no_rollback (Insert name rows) no_end = refl
+no_rollback (Select name columns w) no_end = refl
+no_rollback (Update name sets w) no_end = refl
+no_rollback (Delete name w) no_end = refl
+no_rollback Begin no_end = refl
+no_rollback Commit no_end = refl
+no_rollback Rollback no_end = cc
+no_rollback (Refused refusal) no_end = refl
+
+-- what it leaves
+after_stays : (state : State) (s : Statement) → effect_by s ≡ stays → after_statement state s ≡ changed state (does state.present s).tables
+after_stays state (Create name schema) no_end = refl
+after_stays state (Insert name rows) no_end = refl
+after_stays state (Select name columns w) no_end = refl
+after_stays state (Update name sets w) no_end = refl
+after_stays state (Delete name w) no_end = refl
+after_stays state Begin no_end = cc
+after_stays state Commit no_end = cc
+after_stays state Rollback no_end = cc
+after_stays state (Refused refusal) no_end = refl
+
+-- one that is done, and what became of its transaction
+module _ {S : Type 0} (g : Ghosts S) (mid now : S) (c : ConnectionState) (trx : TrxState) (state : State) (d : Database) (statement : Statement) (said : Reply) (done : IsDone g mid c.defs trx statement d said) (no_end : effect_by statement ≡ stays)
+    (present : tables_of d ≡ state.present) (rest : state.inside ≡ false → state.committed ≡ state.present) (stand : committed d ≡ state.committed)
     (setup : c.trx.session ≡ 0 → c.inside ≡ false) (same : c.inside ≡ state.inside) (pages : (g.shape now).pages ≡ (g.shape mid).pages) where
   abbrev full : Bool
-  full = at.leads.full
+  full = done.full
 
-  reached : Reaches (g.shape now).pages d at.db
-  reached = subst (λ (n : ℕ). Reaches n d at.db) (sym pages) at.reaches
+  abbrev after : List Table
+  after = (does state.present statement).tables
 
-  caused : full ≡ true → FillsUp (g.shape now).pages d at.db
-  caused filled = subst (λ (n : ℕ). FillsUp n d at.db) (sym pages) (at.leads.cause filled)
+  reached : Reaches (g.shape now).pages d done.after
+  reached = subst (λ (n : ℕ). Reaches n d done.after) (sym pages) done.reaches
 
-  outcome : does (tables_of d) work.statement ≡ does state.present statement
-  outcome = λ i. does (present i) (stated i)
+  caused : full ≡ true → FillsUp (g.shape now).pages d done.after
+  caused filled = subst (λ (n : ℕ). FillsUp n d done.after) (sym pages) (done.cause filled)
 
-  answer : work.reply ≡ reply_or_full full state statement
-  answer = reply_is g mid c.defs trx d work at is ∙ ap (λ (o : Outcome). if full then reply.Err FileFull else o.reply) outcome
+  answer : said ≡ reply_or_full full state statement
+  answer = done.answer_is ∙ ap (λ (ts : List Table). if full then reply.Err FileFull else (does ts statement).reply) present
 
-  tables : tables_of at.db ≡ (if full then tables_of d else (does state.present statement).tables)
-  tables = tables_are g mid c.defs trx d work at is ∙ ap (λ (o : Outcome). if full then tables_of d else o.tables) outcome
+  tables : tables_of done.after ≡ (if full then tables_of d else after)
+  tables = done.tables ∙ ap (λ (ts : List Table). if full then tables_of d else (does ts statement).tables) present
 
-  done_inside : state.inside ≡ true → is_create statement ≡ false → IsOpen g now c.defs c.trx at.db → Executed g now c state statement d work.reply
+  left : (if full then state else changed state after) ≡ state_or_full full state statement
+  left = ap (λ (s : State). if full then state else s) (sym (after_stays state statement no_end))
+
+  done_inside : state.inside ≡ true → is_create statement ≡ false → IsOpen g now c.defs c.trx done.after → Answered g now c state statement d said
   done_inside inside not opened = record {
     full = full;
     answer_is = answer;
     comes = record {
-      after = at.db;
-      holds = holds_inside g now c state d at.db (does state.present statement).tables full opened setup same inside present tables (committed_same g mid c.defs trx d work at is (ap is_create stated ∙ not) ∙ stand);
+      after = done.after;
+      holds = subst (λ (s : State). Holds g now c s done.after) left
+          (holds_inside g now c state d done.after after full opened setup same inside present tables (done.same not ∙ stand));
       reaches = reached;
     };
     cause = caused;
   }
 
-  done_outside : state.inside ≡ false → CommitsAll g now c.defs c.trx at.db → Executed g now c state statement d work.reply
+  done_outside : state.inside ≡ false → CommitsAll g now c.defs c.trx done.after → Answered g now c state statement d said
   done_outside outside k = record {
     full = full;
     answer_is = answer;
     comes = record {
       after = k.after;
-      holds = holds_outside g now c state d k.after (does state.present statement).tables full k.opened k.none setup same outside present (rest outside) (k.same ∙ tables) (k.committed_are ∙ sym k.same);
-      reaches = reaches_on (g.shape now).pages d at.db k.after reached k.reaches;
+      holds = subst (λ (s : State). Holds g now c s k.after) left
+          (holds_outside g now c state d k.after after full k.opened k.none setup same outside present (rest outside) (k.same ∙ tables) (k.committed_are ∙ sym k.same));
+      reaches = reaches_on (g.shape now).pages d done.after k.after reached k.reaches;
     };
-    cause = λ filled. fills_later (g.shape now).pages d at.db k.after (caused filled) k.reaches;
+    cause = λ filled. fills_later (g.shape now).pages d done.after k.after (caused filled) k.reaches;
   }
 
-  pub executed : (inside : Bool) → state.inside ≡ inside → (inside ≡ true → is_create statement ≡ false) → Settles g now c.defs c.trx inside at.db → Executed g now c state statement d work.reply
-  executed true inside not opened = done_inside inside (not refl) opened
-  executed false inside not k = done_outside inside k
-
--- ---- a statement is answered
-
--- one that ends no transaction and begins none
-answered_by : {S : Type 0} (g : Ghosts S) (now : S) (c : ConnectionState) (state : State) (d : Database) (said : Reply) (s : Statement) → effect_by s ≡ stays → Executed g now c state s d said → Answered g now c state s d said
-answered_by g now c state d said (Create name schema) no_end e = record { full = e.full; answer_is = e.answer_is; comes = e.comes; cause = e.cause }
-answered_by g now c state d said (Insert name rows) no_end e = record { full = e.full; answer_is = e.answer_is; comes = e.comes; cause = e.cause }
-answered_by g now c state d said (Select name columns w) no_end e = record { full = e.full; answer_is = e.answer_is; comes = e.comes; cause = e.cause }
-answered_by g now c state d said (Update name sets w) no_end e = record { full = e.full; answer_is = e.answer_is; comes = e.comes; cause = e.cause }
-answered_by g now c state d said (Delete name w) no_end e = record { full = e.full; answer_is = e.answer_is; comes = e.comes; cause = e.cause }
-answered_by g now c state d said Begin no_end e = cc
-answered_by g now c state d said Commit no_end e = cc
-answered_by g now c state d said Rollback no_end e = cc
-answered_by g now c state d said (Refused refusal) no_end e = record { full = e.full; answer_is = e.answer_is; comes = e.comes; cause = e.cause }
-
-pub answered_on : {S : Type 0} (g : Ghosts S) (now : S) (c : ConnectionState) (state : State) (d : Database) (s : Statement) (result : Result Reply Fault) → effect_by s ≡ stays → IfOk result (Executed g now c state s d) → IfOk result (Answered g now c state s d)
-answered_on g now c state d s (Ok said) no_end e = answered_by g now c state d said s no_end e
-answered_on g now c state d s (Err fault) no_end e = tt
+  pub answered_done : (inside : Bool) → state.inside ≡ inside → (inside ≡ true → is_create statement ≡ false) → Settles g now c.defs c.trx inside done.after → Answered g now c state statement d said
+  answered_done true inside not opened = done_inside inside (not refl) opened
+  answered_done false inside not k = done_outside inside k
 
 -- one that is done, whatever room there is
 pub answered_ok : {S : Type 0} (g : Ghosts S) (now : S) (c : ConnectionState) (state : State) (d : Database) (said : Reply) (s : Statement) → said ≡ (does state.present s).reply → Comes g now c (after_statement state s) d → Answered g now c state s d said
@@ -373,43 +278,3 @@ comes_back g mid now defs trx c state d stand b pages comes =
     let n = (g.shape now).pages in
     let k : Comes g now c (settled state.committed) b.after = subst (λ (tables : List Table). Comes g now c (settled tables) b.after) (b.back ∙ stand) comes in
     record { after = k.after; holds = k.holds; reaches = reaches_on n d b.after k.after (subst (λ (m : ℕ). Reaches m d b.after) (sym pages) b.reaches) k.reaches }
-
--- ---- changes that are taken back
-
--- some are, and the committed tables are as they were
-pub record UndidSome {S : Type 0} (g : Ghosts S) (now : S) (defs : List TableDef) (trx : TrxState) (old : Database) : Type 0 where
-  pub after : Database
-  pub opened : IsOpen g now defs trx after
-  pub same : committed after ≡ committed old
-  pub reaches : Reaches (g.shape now).pages old after
-
-pub undid_none : {S : Type 0} (g : Ghosts S) (now : S) (defs : List TableDef) (trx : TrxState) (d : Database) → IsOpen g now defs trx d → UndidSome g now defs trx d
-undid_none g now defs trx d opened = record { after = d; opened = opened; same = refl; reaches = reaches_self (g.shape now).pages d }
-
-pub undid_more : {S : Type 0} (g : Ghosts S) (mid new : S) (defs : List TableDef) (trx trx_now : TrxState) (d : Database) (some : UndidSome g mid defs trx d) → (g.shape new).pages ≡ (g.shape mid).pages → DidUndo g new defs trx_now some.after
-    → UndidSome g new defs trx_now d
-undid_more g mid new defs trx trx_now d some pages u =
-    let n = (g.shape new).pages in
-    record {
-      after = u.after;
-      opened = u.opened;
-      same =
-          sym (ap (λ (l : List FileImage). after_changes (tables_of some.after) (map back_of l)) u.noted ∙ ap (λ (ts : List Table). after_changes ts (map back_of u.after.images)) (sym u.tables))
-          ∙ some.same;
-      reaches = reaches_on n d some.after u.after (subst (λ (m : ℕ). Reaches m d some.after) (sym pages) some.reaches) u.reaches;
-    }
-
-no_length : (images : List FileImage) → length images ≡ 0 → images ≡ []
-no_length [] none = refl
-no_length (i ∷ images) none = absurd (omega (arith, none))
-
-pub all_undone : {S : Type 0} (g : Ghosts S) (now : S) (defs : List TableDef) (trx : TrxState) (d : Database) → UndidSome g now defs trx d → trx.count ≡ 0 → GoesBack g now defs trx d
-all_undone g now defs trx d some none =
-    let images : some.after.images ≡ [] = no_length some.after.images (sym some.opened.noted ∙ none) in
-    record {
-      after = some.after;
-      opened = some.opened;
-      none = images;
-      back = sym (ap (λ (l : List FileImage). after_changes (tables_of some.after) (map back_of l)) images) ∙ some.same;
-      reaches = some.reaches;
-    }

@@ -1,4 +1,5 @@
 pub mod EndLaws
+pub mod RunLaws
 pub mod MeantLaws
 pub mod SuitLaws
 pub mod SweepLaws

@@ -14,7 +14,7 @@ use Rattle.isp_plain.specs.declared.statement.Reply.TheVariants as reply
 use Rattle.isp_plain.specs.declared.statement.Statement.{Statement}
 use Rattle.isp_plain.specs.declared.statement.Statement.TheVariants.{Begin, Create}
 use Rattle.isp_plan.specs.Meaning.{whole}
-use Rattle.isp_serial.specs.Alone.{State, after_statement, changed}
+use Rattle.isp_serial.specs.Alone.{State, after_statement}
 use Rattle.isp_serial.specs.Serial.{place_at}
 use Rattle.isp_trx.specs.Transactions.{TrxState}
 use Rattle.isp_connection.specs.Connections.{ConnectionState, Holds}
@@ -60,16 +60,17 @@ pub record MayCome (session : ℕ) (state : State) (statement : Statement) : Typ
   pub outside : state.inside ≡ true → is_create statement ≡ false
   pub begins : session ≡ 0 → statement ≡ Begin → ⊥
 
--- what a statement leaves that isn't BEGIN, COMMIT or ROLLBACK
-abbrev pub changed_or_full : Bool → State → Statement → State
-changed_or_full full state statement = if full then state else changed state (does state.present statement).tables
-
--- such a one was answered so
-pub record Executed {S : Type 0} (g : Ghosts S) (now : S) (c : ConnectionState) (state : State) (statement : Statement) (old : Database) (answer : Reply) : Type 0 where
+-- The statement is done, or has found the file full, where there was no room; nothing of it is committed.
+pub record IsDone {S : Type 0} (g : Ghosts S) (now : S) (defs : List TableDef) (trx : TrxState) (statement : Statement) (old : Database) (answer : Reply) : Type 0 where
   pub full : Bool
-  pub answer_is : answer ≡ reply_or_full full state statement
-  pub comes : Comes g now c (changed_or_full full state statement) old
-  pub cause : full ≡ true → FillsUp (g.shape now).pages old comes.after
+  pub after : Database
+  pub opened : IsOpen g now defs trx after
+  pub answer_is : answer ≡ (if full then reply.Err FileFull else (does (tables_of old) statement).reply)
+  pub tables : tables_of after ≡ (if full then tables_of old else (does (tables_of old) statement).tables)
+  -- a table that CREATE has made is committed
+  pub same : is_create statement ≡ false → committed after ≡ committed old
+  pub reaches : Reaches (g.shape now).pages old after
+  pub cause : full ≡ true → FillsUp (g.shape now).pages old after
 
 -- all changes are taken back, so that the tables of now are the committed ones
 pub record GoesBack {S : Type 0} (g : Ghosts S) (now : S) (defs : List TableDef) (trx : TrxState) (old : Database) : Type 0 where

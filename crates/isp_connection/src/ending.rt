@@ -6,35 +6,18 @@ ghost use Rattle.isp_tables.specs.Calls.{Keeps, Serves};
 ghost use Rattle.isp_image.specs.Databases.{Database, tables_of};
 ghost use Rattle.isp_page.specs.Steps.{IsNoDamageOrLacks};
 ghost use Rattle.isp_serial.specs.Alone.{State, rolled_back, settled};
-ghost use Rattle.isp_connection.specs.Answering.{Comes, ComesTidy, GoesBack, Settles};
+ghost use Rattle.isp_connection.specs.Answering.{Comes, ComesTidy, Settles};
 ghost use Rattle.isp_tables.specs.Opened.{IsOpen};
-ghost use Rattle.isp_connection.specs.Connections.{Holds};
+ghost use Rattle.isp_connection.specs.Connections.{Holds, state_of};
 ghost use Rattle.isp_image.specs.Faults.{NamesLaterOrLacks};
 
 use crate::connection::Connection;
+use crate::running::run;
+use isp_exec::Work;
 use isp_page::{Fault, Pages};
-use isp_tables::Tables;
+use isp_plain::Statement;
 use isp_trx::{Trx, drop_marked_rows, rising};
-use isp_writes::undo_newest;
 use std::mem;
-
-// Takes all changes back, the newest first.
-fn undo_all<P: Pages>(pages: &mut P, tables: &Tables, trx: &mut Trx) -> Result<(), Fault>
-    requires serves { Serves P.Pages pages.old tables.now }
-    ensures kept { Keeps P.Pages pages.old pages.new result }
-    ensures serves { OnOk result (Serves P.Pages pages.new tables.now) }
-    ensures undone { P.tells → (d : Database) → IsOpen P.Pages pages.old tables.now trx.old d
-        → OnOk result (GoesBack P.Pages pages.new tables.now trx.new d) }
-    ensures session { trx.new.session ≡ trx.old.session }
-    ensures sound { P.tells → (d : Database) → IsOpen P.Pages pages.old tables.now trx.old d
-        → IfErr result IsNoDamageOrLacks }
-    ensures later { IfErr result NamesLaterOrLacks }
-{
-    'undoing: while 0 < trx.undo_count() {
-        undo_newest(pages, tables, trx, 0)?;
-    }
-    Ok(())
-}
 
 // Makes what was done the committed tables, for good, where no transaction is open.
 pub(crate) fn settle<P: Pages>(pages: &mut P, trx: &mut Trx, inside: bool) -> Result<(), Fault>
@@ -57,45 +40,53 @@ pub(crate) fn settle<P: Pages>(pages: &mut P, trx: &mut Trx, inside: bool) -> Re
     Ok(())
 }
 
-impl Connection {
+impl<P: Pages> Connection<P> {
     // Makes what was done the committed tables, for good, and ends the transaction.
-    pub(crate) fn commit<P: Pages>(&mut self, pages: &mut P) -> Result<(), Fault>
-        requires serves { Serves P.Pages pages.old self.old.defs }
-        ensures kept { Keeps P.Pages pages.old pages.new result }
-        ensures serves { OnOk result (Serves P.Pages pages.new self.new.defs) }
-        ensures session { OnOk result (self.new.trx.session ≡ self.old.trx.session) }
+    pub(crate) fn commit(&mut self) -> Result<(), Fault>
+        requires serves { Serves P.Pages self.old.context.pages self.old.context.tables }
+        ensures kept { Keeps P.Pages self.old.context.pages self.new.context.pages result }
+        ensures serves { OnOk result (Serves P.Pages self.new.context.pages
+            self.new.context.tables) }
+        ensures session { OnOk result (self.new.context.trx.session
+            ≡ self.old.context.trx.session) }
         ensures done { P.tells → (d : Database)
-            → IsOpen P.Pages pages.old self.old.defs self.old.trx d
-            → OnOk result (Comes P.Pages pages.new self.new (settled (tables_of d)) d) }
+            → IsOpen P.Pages self.old.context.pages self.old.context.tables self.old.context.trx d
+            → OnOk result (Comes P.Pages self.new.context.pages (state_of self.new)
+            (settled (tables_of d)) d) }
         ensures sound { P.tells → (d : Database)
-            → IsOpen P.Pages pages.old self.old.defs self.old.trx d
+            → IsOpen P.Pages self.old.context.pages self.old.context.tables self.old.context.trx d
             → IfErr result IsNoDamageOrLacks }
         ensures later { IfErr result NamesLaterOrLacks }
     {
-        settle(pages, &mut self.trx, false)?;
+        settle(&mut self.context.pages, &mut self.context.trx, false)?;
         self.inside = false;
         Ok(())
     }
 
-    /// Takes back what was done in the open transaction, if one is open, and ends it.
+    /// Takes back what was done in the open transaction, if one is open, and ends it: a ROLLBACK is stepped until it is ready.
     ///
     /// # Errors
     ///
-    /// Disk; or Damaged, where the pages aren't those of a kept file.
-    pub fn roll_back<P: Pages>(&mut self, pages: &mut P) -> Result<(), Fault>
-        requires serves { Serves P.Pages pages.old self.old.defs }
-        ensures kept { Keeps P.Pages pages.old pages.new result }
-        ensures serves { OnOk result (Serves P.Pages pages.new self.new.defs) }
-        ensures session { OnOk result (self.new.trx.session ≡ self.old.trx.session) }
+    /// Disk; want of memory; or Damaged, where the pages aren't those of a kept file.
+    pub fn roll_back(&mut self) -> Result<(), Fault>
+        requires serves { Serves P.Pages self.old.context.pages self.old.context.tables }
+        ensures kept { Keeps P.Pages self.old.context.pages self.new.context.pages result }
+        ensures serves { OnOk result (Serves P.Pages self.new.context.pages
+            self.new.context.tables) }
+        ensures session { OnOk result (self.new.context.trx.session
+            ≡ self.old.context.trx.session) }
         ensures back { P.tells → (d : Database) (state : State)
-            → Holds P.Pages pages.old self.old state d
-            → OnOk result (Comes P.Pages pages.new self.new (rolled_back state) d) }
+            → Holds P.Pages self.old.context.pages (state_of self.old) state d
+            → OnOk result (Comes P.Pages self.new.context.pages (state_of self.new)
+            (rolled_back state) d) }
         ensures sound { P.tells → (d : Database) (state : State)
-            → Holds P.Pages pages.old self.old state d → IfErr result IsNoDamageOrLacks }
+            → Holds P.Pages self.old.context.pages (state_of self.old) state d
+            → IfErr result IsNoDamageOrLacks }
         ensures later { IfErr result NamesLaterOrLacks }
     {
-        undo_all(pages, &self.tables, &mut self.trx)?;
-        self.commit(pages)?;
+        let work = Work::start(self.alloc, &self.context, Statement::Rollback);
+        let _reply = run(&mut self.context, work)?;
+        self.commit()?;
         Ok(())
     }
 
@@ -104,25 +95,33 @@ impl Connection {
     /// # Errors
     ///
     /// Disk; want of memory; or Damaged, where the pages aren't those of a kept file.
-    pub fn sweep<P: Pages>(&mut self, pages: &mut P) -> Result<(), Fault>
-        requires serves { Serves P.Pages pages.old self.old.defs }
-        ensures kept { Keeps P.Pages pages.old pages.new result }
-        ensures serves { OnOk result (Serves P.Pages pages.new self.new.defs) }
-        ensures session { OnOk result (self.new.trx.session ≡ self.old.trx.session) }
+    pub fn sweep(&mut self) -> Result<(), Fault>
+        requires serves { Serves P.Pages self.old.context.pages self.old.context.tables }
+        ensures kept { Keeps P.Pages self.old.context.pages self.new.context.pages result }
+        ensures serves { OnOk result (Serves P.Pages self.new.context.pages
+            self.new.context.tables) }
+        ensures session { OnOk result (self.new.context.trx.session
+            ≡ self.old.context.trx.session) }
         ensures swept { P.tells → (d : Database) (state : State)
-            → Holds P.Pages pages.old self.old state d
-            → OnOk result (ComesTidy P.Pages pages.new self.new state d) }
+            → Holds P.Pages self.old.context.pages (state_of self.old) state d
+            → OnOk result (ComesTidy P.Pages self.new.context.pages (state_of self.new) state d) }
         ensures sound { P.tells → (d : Database) (state : State)
-            → Holds P.Pages pages.old self.old state d → IfErr result IsNoDamageOrLacks }
+            → Holds P.Pages self.old.context.pages (state_of self.old) state d
+            → IfErr result IsNoDamageOrLacks }
         ensures later { IfErr result NamesLaterOrLacks }
     {
         if self.inside {
             return Ok(());
         }
-        let fresh = Trx::begin(self.alloc, self.trx.session());
-        let ended = mem::replace(&mut self.trx, fresh);
+        let fresh = Trx::begin(self.alloc, self.context.trx.session());
+        let ended = mem::replace(&mut self.context.trx, fresh);
         let keys = rising(ended.end());
-        drop_marked_rows(self.alloc, pages, self.tables.roots(), keys.as_slice())?;
+        drop_marked_rows(
+            self.alloc,
+            &mut self.context.pages,
+            self.context.tables.roots(),
+            keys.as_slice(),
+        )?;
         Ok(())
     }
 }

@@ -1,5 +1,6 @@
 -- The work on an open file, from what its calls say.
 use Rattle.std.proofs.Common.{◌≡◌, ◌∙◌, ℕ, ap, sym, refl, subst, List, ◌++◌, length, Result, Ok, Err, arith}
+use Rattle.std.specs.Prelude.{IfErr, OnErr, OnOk}
 use Rattle.std.proofs.lemmas.List.{take_all}
 use Rattle.isp_disk.specs.Outside.{PrintsPart, Rose}
 use Rattle.isp_disk.specs.declared.world.World.{Ghosts}
@@ -15,7 +16,8 @@ use Rattle.isp_page.specs.declared.fault.StoreFault.{StoreFault}
 use Rattle.isp_page.specs.declared.fault.StoreFault.TheVariants.{Damaged, Disk, Print}
 use Rattle.isp_serial.specs.Alone.{IsAlone}
 use Rattle.isp_serial.specs.declared.script.Script.{Script}
-use Rattle.isp_sessions.specs.Plays.{IsAtRest, IsSmall, Played, PlayedPart, StaysPlaying, StopsBy, lines_of}
+use Rattle.isp_sessions.specs.Plays.{IsAtRest, IsSmall, Played, PlayedPart, SameCounts, StaysPlaying, StopsBy, lines_of}
+use Rattle.isp_sessions.proofs.ExitLaws.{if_err, on_err, on_ok}
 use Rattle.isp_store.specs.Calls.{FlushesWhole, IsAllInPlace}
 use Rattle.isp_store.specs.State.{StoreState, contents, shape, store}
 use Rattle.isp_run.specs.Causes.{CountsAt}
@@ -89,30 +91,32 @@ module _ {W : Type 0} (g : Ghosts W) where
 
   module _ (script : Script) (small : IsSmall script) where
     -- the script wasn't played to its end
-    pub play_stops : (old new : StoreState W) (fault : Fault) (end : Status) → end ≡ status_of fault → (let failed : Result (Unit {0}) Fault = Err fault in StaysPlaying (store g) old new failed)
-        → (g.tells → IsAlone script.sessions → (d : Database) → IsAtRest (shape g old).pages (contents g old) d → PlayedPart (shape g old).pages script d (g.printed old.stable.world) (g.printed new.stable.world))
-        → (g.tells → (d : Database) → IsAtRest (shape g old).pages (contents g old) d → IsNoDamageOrLacks fault) → NamesLaterOrLacks fault
+    pub play_stops : (old new : StoreState W) (played : Result (Unit {0}) Fault) (fault : Fault) → played ≡ Err fault → (end : Status) → end ≡ status_of fault → StaysPlaying (store g) old new played
+        → (g.tells → IsAlone script.sessions → (d : Database) → IsAtRest (shape g old).pages (contents g old) d → OnErr played (PlayedPart (shape g old).pages script d (g.printed old.stable.world) (g.printed new.stable.world)))
+        → (g.tells → (d : Database) → IsAtRest (shape g old).pages (contents g old) d → IfErr played IsNoDamageOrLacks) → IfErr played NamesLaterOrLacks
         → HasWorked g script old.stable.world (contents g old) (shape g old) end new.stable.world
-    play_stops old new fault end ends stays part sound later =
+    play_stops old new played fault is end ends stays part sound later =
+        let cause : StopsBy (store g) old new fault = if_err (StopsBy (store g) old new) played fault is stays.cause in
         subst (λ (e : Status). HasWorked g script old.stable.world (contents g old) (shape g old) e new.stable.world) (sym ends) (record {
           statuses = work_status fault;
           small = small;
           done = λ tells alone is. not_done _ fault is;
-          part = part;
-          sound = λ tells d rests. sound_status fault (sound tells d rests);
-          later = later_status fault later;
+          part = λ tells alone d rests. on_err _ played fault is (part tells alone d rests);
+          sound = λ tells d rests. sound_status fault (if_err IsNoDamageOrLacks played fault is (sound tells d rests));
+          later = later_status fault (if_err NamesLaterOrLacks played fault is later);
           tidy = λ tells is. not_done _ fault is;
-          disk = disk_counts old new fault stays.cause;
-          printer = print_counts old new fault stays.cause;
+          disk = disk_counts old new fault cause;
+          printer = print_counts old new fault cause;
         })
 
     -- it was, and the pages are in their places
-    pub all_done : (old mid new : StoreState W) → (let went : Result (Unit {0}) Fault = Ok tt in StaysPlaying (store g) old mid went)
-        → (g.tells → IsAlone script.sessions → (d : Database) → IsAtRest (shape g old).pages (contents g old) d → Played (shape g old).pages script d (contents g mid) (g.printed old.stable.world) (g.printed mid.stable.world))
+    pub all_done : (old mid new : StoreState W) (played : Result (Unit {0}) Fault) (x : Unit {0}) → played ≡ Ok x → StaysPlaying (store g) old mid played
+        → (g.tells → IsAlone script.sessions → (d : Database) → IsAtRest (shape g old).pages (contents g old) d → OnOk played (Played (shape g old).pages script d (contents g mid) (g.printed old.stable.world) (g.printed mid.stable.world)))
         → (let went : Result (Unit {0}) StoreFault = Ok tt in FlushesWhole g mid new went) → (g.tells → contents g new ≡ contents g mid) → IsAllInPlace g new
         → HasWorked g script old.stable.world (contents g old) (shape g old) status.Done new.stable.world
-    all_done old mid new stays played flushed same placed =
+    all_done old mid new result x is stays played flushed same placed =
         let keeps = flushed.along.steps.keeps in
+        let counts : SameCounts (store g) old mid = on_ok _ result x is stays.counts in
         record {
           statuses = tt;
           small = small;
@@ -125,28 +129,28 @@ module _ {W : Type 0} (g : Ghosts W) where
           sound = λ tells d rests. tt;
           later = tt;
           tidy = λ tells is. (in_place g new tells placed).tidy;
-          disk = steady status.DiskFault status.Done (g.disk_faults old.stable.world) (g.disk_faults new.stable.world) (λ is. cc) (keeps.goes_on.steady ∙ stays.counts.disk);
-          printer = steady status.PrintFault status.Done (g.print_faults old.stable.world) (g.print_faults new.stable.world) (λ is. cc) (keeps.printer ∙ stays.counts.printer);
+          disk = steady status.DiskFault status.Done (g.disk_faults old.stable.world) (g.disk_faults new.stable.world) (λ is. cc) (keeps.goes_on.steady ∙ counts.disk);
+          printer = steady status.PrintFault status.Done (g.print_faults old.stable.world) (g.print_faults new.stable.world) (λ is. cc) (keeps.printer ∙ counts.printer);
         }
       where
         played_now : g.tells → IsAlone script.sessions → (d : Database) → IsAtRest (shape g old).pages (contents g old) d → Played (shape g old).pages script d (contents g new) (g.printed old.stable.world) (g.printed new.stable.world)
         played_now tells alone d rests =
             subst (λ (c : Contents). Played (shape g old).pages script d c (g.printed old.stable.world) (g.printed new.stable.world)) (sym (same tells))
-            (subst (λ (now : List ℕ). Played (shape g old).pages script d (contents g mid) (g.printed old.stable.world) now) (sym flushed.along.steps.keeps.silent) (played tells alone d rests))
+            (subst (λ (now : List ℕ). Played (shape g old).pages script d (contents g mid) (g.printed old.stable.world) now) (sym flushed.along.steps.keeps.silent) (on_ok _ result x is (played tells alone d rests)))
 
     -- it was, and the pages weren't put in their places
-    pub placing_stops : (old mid new : StoreState W) (fault : StoreFault) (end : Status) → end ≡ status_of (Store fault) → (let went : Result (Unit {0}) Fault = Ok tt in StaysPlaying (store g) old mid went)
-        → (g.tells → IsAlone script.sessions → (d : Database) → IsAtRest (shape g old).pages (contents g old) d → Played (shape g old).pages script d (contents g mid) (g.printed old.stable.world) (g.printed mid.stable.world))
+    pub placing_stops : (old mid new : StoreState W) (played : Result (Unit {0}) Fault) (x : Unit {0}) → played ≡ Ok x → (fault : StoreFault) (end : Status) → end ≡ status_of (Store fault) → StaysPlaying (store g) old mid played
+        → (g.tells → IsAlone script.sessions → (d : Database) → IsAtRest (shape g old).pages (contents g old) d → OnOk played (Played (shape g old).pages script d (contents g mid) (g.printed old.stable.world) (g.printed mid.stable.world)))
         → (let failed : Result (Unit {0}) StoreFault = Err fault in FlushesWhole g mid new failed) → IsNoDamage fault
         → HasWorked g script old.stable.world (contents g old) (shape g old) end new.stable.world
-    placing_stops old mid new fault end ends stays played flushed sound =
+    placing_stops old mid new result x is fault end ends stays played flushed sound =
         let keeps = flushed.along.steps.keeps in
         subst (λ (e : Status). HasWorked g script old.stable.world (contents g old) (shape g old) e new.stable.world) (sym ends) (record {
           statuses = work_status (Store fault);
           small = small;
           done = λ tells alone is. not_done _ (Store fault) is;
           part = λ tells alone d rests. subst (λ (now : List ℕ). PlayedPart (shape g old).pages script d (g.printed old.stable.world) now) (sym keeps.silent)
-              (part_of (shape g old).pages script d (contents g mid) (g.printed old.stable.world) (g.printed mid.stable.world) (played tells alone d rests));
+              (part_of (shape g old).pages script d (contents g mid) (g.printed old.stable.world) (g.printed mid.stable.world) (on_ok _ result x is (played tells alone d rests)));
           sound = λ tells d rests. sound_status (Store fault) (by fault sound);
           later = later_status (Store fault) (later_none fault sound);
           tidy = λ tells is. not_done _ (Store fault) is;
@@ -159,17 +163,20 @@ module _ {W : Type 0} (g : Ghosts W) where
         by Print is = tt
         by (Damaged page rule) is = absurd is
 
+        same : SameCounts (store g) old mid
+        same = on_ok _ result x is stays.counts
+
         printer_same : g.print_faults new.stable.world ≡ g.print_faults old.stable.world
-        printer_same = flushed.along.steps.keeps.printer ∙ stays.counts.printer
+        printer_same = flushed.along.steps.keeps.printer ∙ same.printer
 
         disk_now : (n : ℕ) → n ≡ g.disk_faults mid.stable.world → n ≡ g.disk_faults old.stable.world
-        disk_now n is = is ∙ stays.counts.disk
+        disk_now n at = at ∙ same.disk
 
         counts : (f : StoreFault) → FailsOnPages (g.disk_faults mid.stable.world) (g.disk_faults new.stable.world) new.is_usable f
             → CountsAt status.DiskFault (status_of (Store f)) (g.disk_faults old.stable.world) (g.disk_faults new.stable.world)
             × CountsAt status.PrintFault (status_of (Store f)) (g.print_faults old.stable.world) (g.print_faults new.stable.world)
         counts Disk rose = (
-          rises status.DiskFault status.DiskFault (g.disk_faults old.stable.world) (g.disk_faults new.stable.world) refl (subst (λ n. Rose n (g.disk_faults new.stable.world)) stays.counts.disk rose),
+          rises status.DiskFault status.DiskFault (g.disk_faults old.stable.world) (g.disk_faults new.stable.world) refl (subst (λ n. Rose n (g.disk_faults new.stable.world)) same.disk rose),
           steady status.PrintFault status.DiskFault (g.print_faults old.stable.world) (g.print_faults new.stable.world) (λ is. cc) printer_same,
         )
         counts Print never = absurd never

@@ -132,23 +132,25 @@ fn work<W: World>(alloc: Global, script: &Script, store: Store<W>) -> (Status, W
     ensures worked { HasWorked W.World script.now store.stable.world (contents W.World store)
         (shape W.World store) result.0 result.1 }
 {
-    let mut store = store;
-    let status = work_on(alloc, script, &mut store);
+    let (status, store) = work_on(alloc, script, store);
     (status, store.into_world())
 }
 
-fn work_on<W: World>(alloc: Global, script: &Script, store: &mut Store<W>) -> Status
+fn work_on<W: World>(alloc: Global, script: &Script, store: Store<W>) -> (Status, Store<W>)
     requires slots { All HasSlot script.now.sessions }
-    requires usable { store.old.is_usable ≡ true }
-    requires none { (mini W.World store.old).is_begun ≡ false }
-    ensures worked { HasWorked W.World script.now store.old.stable.world (contents W.World store.old)
-        (shape W.World store.old) result store.new.stable.world }
+    requires usable { store.is_usable ≡ true }
+    requires none { (mini W.World store).is_begun ≡ false }
+    ensures worked { HasWorked W.World script.now store.stable.world (contents W.World store)
+        (shape W.World store) result.0 result.1.stable.world }
 {
     match play(alloc, script, store) {
-        Ok(()) => match store.checkpoint() {
-            Ok(()) => Status::Done,
-            Err(fault) => status_of(Fault::Store(fault)),
-        },
-        Err(fault) => status_of(fault),
+        (Ok(()), store) => {
+            let mut store = store;
+            match store.checkpoint() {
+                Ok(()) => (Status::Done, store),
+                Err(fault) => (status_of(Fault::Store(fault)), store),
+            }
+        }
+        (Err(fault), store) => (status_of(fault), store),
     }
 }

@@ -1,7 +1,7 @@
 -- A run that goes on at the exits of calls: their results may be errors, and they speak of the session, the number and the pages
 -- that stand at their beginning.
 use Rattle.std.proofs.Common.{◌≡◌, ◌∙◌, ℕ, ◌+◌, ◌<◌, ◌≤◌, ap, sym, subst, List, [], ◌∷◌, ◌++◌, get_or, length, take, drop, arith, Result, Ok, Err}
-use Rattle.std.specs.Prelude.{OnErr, OnOk}
+use Rattle.std.specs.Prelude.{IfErr, OnErr, OnOk}
 use Rattle.std.proofs.lemmas.List.{drop_more, length-take-le, take-append-drop, take_more}
 use Rattle.isp_connection.specs.Answering.{meant}
 use Rattle.isp_connection.specs.Connections.{ConnectionState}
@@ -21,6 +21,16 @@ use Rattle.isp_sessions.specs.Runs.{AnswersPart, HasAnswered, HasEnded, HasSessi
 use Rattle.isp_sessions.specs.Sql.{sql}
 use Rattle.isp_sessions.proofs.PlayLaws.{no_session, one_part, one_session, part_from, script_over, session_ends_partly, session_from, session_over, sessions_stop, setup_over, setup_stops}
 use Rattle.isp_sessions.proofs.RunLaws.{texts_more, texts_stop}
+
+-- what is known of a call that is known to have ended so
+pub on_ok : (X : Type 0) (result : Result (Unit {0}) Fault) (x : Unit {0}) → result ≡ Ok x → OnOk result X → X
+on_ok X result x is has = subst (λ (r : Result (Unit {0}) Fault). OnOk r X) is has
+
+pub on_err : (X : Type 0) (result : Result (Unit {0}) Fault) (e : Fault) → result ≡ Err e → OnErr result X → X
+on_err X result e is has = subst (λ (r : Result (Unit {0}) Fault). OnErr r X) is has
+
+pub if_err : (P : Fault → Type 0) (result : Result (Unit {0}) Fault) (e : Fault) → result ≡ Err e → IfErr result P → P e
+if_err P result e is has = subst (λ (r : Result (Unit {0}) Fault). IfErr r P) is has
 
 module _ {S : Type 0} (g : Ghosts S) where
   same_pages : (old mid : S) → g.shape mid ≡ g.shape old → (g.shape mid).pages ≡ (g.shape old).pages

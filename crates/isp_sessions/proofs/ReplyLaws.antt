@@ -1,9 +1,10 @@
 -- A statement's answer that is printed, and a session's end.
-use Rattle.std.proofs.Common.{◌≡◌, ◌∙◌, ℕ, ap, sym, subst, false, ◌++◌, Result, Ok, Err}
+use Rattle.std.proofs.Common.{◌≡◌, ◌∙◌, ℕ, ap, sym, subst, true, false, ◌++◌, Result, Ok, Err}
 use Rattle.std.specs.Prelude.{OnErr, OnOk}
 use Rattle.isp_connection.specs.Answering.{Answered, Comes, ComesTidy, state_or_full}
 use Rattle.isp_connection.specs.Connections.{ConnectionState, Holds}
 use Rattle.isp_disk.specs.Outside.{PrintsPart}
+use Rattle.isp_tables.specs.Calls.{AreInside, Serves}
 use Rattle.isp_writes.specs.Causes.{FillsUp}
 use Rattle.isp_format.specs.Ranges.{Contents}
 use Rattle.isp_chained.specs.Courses.{Reaches}
@@ -24,23 +25,35 @@ use Rattle.isp_sessions.proofs.PrintLaws.{all_printed, none_printed}
 use Rattle.isp_sessions.proofs.RunLaws.{fills_later, fills_reach, reaches_on}
 
 module _ {S : Type 0} (g : Ghosts S) where
-  -- where no page changes the connection holds what it held
-  pub still_holds : (old new : S) (c : ConnectionState) (state : State) (d : Database) → g.shape new ≡ g.shape old → g.contents new ≡ g.contents old → Holds g old c state d → Holds g new c state d
-  still_holds old new c state d shape same holds = record {
-    opened = record {
-      chain = holds.opened.chain;
-      kept = kept_same (g.shape old).pages (g.shape new).pages (g.contents old) (g.contents new) d (alone c.trx.session holds.opened.chain) (ap (λ (n : FileShape). n.pages) shape) same holds.opened.kept;
-      slot = holds.opened.slot;
-      defs_are = holds.opened.defs_are;
-      noted = holds.opened.noted;
-      written = holds.opened.written;
-    };
-    outside = holds.outside;
-    setup = holds.setup;
-    inside = holds.inside;
-    present = holds.present;
-    committed_are = holds.committed_are;
-  }
+  -- where no page changes the connection holds what it held, and has the tables that it had
+  module _ (old new : S) (c c_now : ConnectionState) (is : c_now ≡ c) (shape : g.shape new ≡ g.shape old) where
+    still_open : (state : State) (d : Database) → g.contents new ≡ g.contents old → Holds g old c state d → Holds g new c state d
+    still_open state d same holds = record {
+      opened = record {
+        chain = holds.opened.chain;
+        kept = kept_same (g.shape old).pages (g.shape new).pages (g.contents old) (g.contents new) d (alone c.trx.session holds.opened.chain) (ap (λ (n : FileShape). n.pages) shape) same holds.opened.kept;
+        slot = holds.opened.slot;
+        defs_are = holds.opened.defs_are;
+        noted = holds.opened.noted;
+        written = holds.opened.written;
+      };
+      outside = holds.outside;
+      setup = holds.setup;
+      inside = holds.inside;
+      present = holds.present;
+      committed_are = holds.committed_are;
+    }
+
+    pub still_holds : (state : State) (d : Database) → g.contents new ≡ g.contents old → Holds g old c state d → Holds g new c_now state d
+    still_holds state d same holds = subst (λ (k : ConnectionState). Holds g new k state d) (sym is) (still_open state d same holds)
+
+    pub still_serves : g.usable new ≡ true → (g.mini new).is_begun ≡ false → Serves g old c.defs → Serves g new c_now.defs
+    still_serves usable none serves = subst (λ (k : ConnectionState). Serves g new k.defs) (sym is) (record {
+      usable = usable;
+      none = none;
+      inside = subst (λ (s : FileShape). AreInside s.pages c.defs) (sym shape) serves.inside;
+      keyed = serves.keyed;
+    })
 
   module _ (d : Database) (session number : ℕ) (old mid new : S) where
     -- the line was printed, and then marked rows went
@@ -115,6 +128,11 @@ module _ {S : Type 0} (g : Ghosts S) where
           };
         }
     ended_and_printed state c c_now (Err e) silent shape comes printed = tt
+
+  -- the session stays over a call behind one that leaves the connection as it was
+  pub session_stays : (c : ConnectionState) (mid : ConnectionState) (session : ℕ) (result : Result (Unit {0}) Fault) → mid ≡ c → OnOk result (session ≡ mid.trx.session) → OnOk result (session ≡ c.trx.session)
+  session_stays c mid session (Ok x) is same = same ∙ ap (λ (k : ConnectionState). k.trx.session) is
+  session_stays c mid session (Err e) is same = tt
 
   -- the line was printed, and the sweep failed
   pub printed_unswept : (session number : ℕ) (old mid new : S) (answer : Reply) (result : Result (Unit {0}) Fault)

@@ -2,7 +2,7 @@
 
 ghost use Rattle.std.specs.Prelude.{◌≡◌, ◌+◌, ◌<◌, ◌^◌, IfErr, OnErr, OnOk, length};
 ghost use Rattle.isp_connection.specs.Answering.{meant};
-ghost use Rattle.isp_connection.specs.Connections.{Holds};
+ghost use Rattle.isp_connection.specs.Connections.{Holds, state_of};
 ghost use Rattle.isp_tables.specs.Calls.{Serves};
 ghost use Rattle.isp_image.specs.Databases.{Database};
 ghost use Rattle.isp_image.specs.Faults.{NamesLaterOrLacks};
@@ -21,27 +21,31 @@ use std::alloc::Global;
 // Prints a statement's answer, and takes out what a transaction that is over left marked.
 fn print_reply<P: Pages>(
     alloc: Global,
-    connection: &mut Connection,
-    pages: &mut P,
+    connection: &mut Connection<P>,
     number: u64,
     reply: &Reply,
 ) -> Result<(), Fault>
-    requires serves { Serves P.Pages pages.old connection.old.defs }
-    ensures stays { StaysPlaying P.Pages pages.old pages.new result }
-    ensures serves { OnOk result (Serves P.Pages pages.new connection.new.defs) }
-    ensures session { OnOk result (connection.new.trx.session ≡ connection.old.trx.session) }
+    requires serves { Serves P.Pages connection.old.context.pages connection.old.context.tables }
+    ensures stays { StaysPlaying P.Pages connection.old.context.pages
+        connection.new.context.pages result }
+    ensures serves { OnOk result (Serves P.Pages connection.new.context.pages
+        connection.new.context.tables) }
+    ensures session { OnOk result (connection.new.context.trx.session
+        ≡ connection.old.context.trx.session) }
     ensures printed { P.tells → (d : Database) (state : State)
-        → Holds P.Pages pages.old connection.old state d
-        → OnOk result (HasPrinted P.Pages (P.shape pages.old).pages d connection.old.trx.session
-        number reply.now state pages.old pages.new connection.new) }
-    ensures part { P.tells → OnErr result (PrintsReply P.Pages connection.old.trx.session number
-        reply.now pages.old pages.new) }
+        → Holds P.Pages connection.old.context.pages (state_of connection.old) state d
+        → OnOk result (HasPrinted P.Pages (P.shape connection.old.context.pages).pages d
+        connection.old.context.trx.session number reply.now state connection.old.context.pages
+        connection.new.context.pages (state_of connection.new)) }
+    ensures part { P.tells → OnErr result (PrintsReply P.Pages connection.old.context.trx.session
+        number reply.now connection.old.context.pages connection.new.context.pages) }
     ensures sound { P.tells → (d : Database) (state : State)
-        → Holds P.Pages pages.old connection.old state d → IfErr result IsNoDamageOrLacks }
+        → Holds P.Pages connection.old.context.pages (state_of connection.old) state d
+        → IfErr result IsNoDamageOrLacks }
     ensures later { IfErr result NamesLaterOrLacks }
 {
-    match print_answer(alloc, pages, connection.session(), number, reply) {
-        Ok(()) => connection.sweep(pages),
+    match print_answer(alloc, connection, number, reply) {
+        Ok(()) => connection.sweep(),
         Err(fault) => Err(fault),
     }
 }
@@ -49,30 +53,36 @@ fn print_reply<P: Pages>(
 // Answers one text.
 fn answer_text<P: Pages>(
     alloc: Global,
-    connection: &mut Connection,
-    pages: &mut P,
+    connection: &mut Connection<P>,
     number: u64,
     text: &Bytes,
 ) -> Result<(), Fault>
-    requires serves { Serves P.Pages pages.old connection.old.defs }
-    ensures stays { StaysPlaying P.Pages pages.old pages.new result }
-    ensures serves { OnOk result (Serves P.Pages pages.new connection.new.defs) }
-    ensures session { OnOk result (connection.new.trx.session ≡ connection.old.trx.session) }
+    requires serves { Serves P.Pages connection.old.context.pages connection.old.context.tables }
+    ensures stays { StaysPlaying P.Pages connection.old.context.pages
+        connection.new.context.pages result }
+    ensures serves { OnOk result (Serves P.Pages connection.new.context.pages
+        connection.new.context.tables) }
+    ensures session { OnOk result (connection.new.context.trx.session
+        ≡ connection.old.context.trx.session) }
     ensures answered { P.tells → (d : Database) (state : State)
-        → Holds P.Pages pages.old connection.old state d
-        → OnOk result (HasAnswered P.Pages (P.shape pages.old).pages d connection.old.trx.session
-        number state (meant connection.old.trx.session text.now state)
-        pages.old pages.new connection.new) }
+        → Holds P.Pages connection.old.context.pages (state_of connection.old) state d
+        → OnOk result (HasAnswered P.Pages (P.shape connection.old.context.pages).pages d
+        connection.old.context.trx.session number state
+        (meant connection.old.context.trx.session text.now state)
+        connection.old.context.pages connection.new.context.pages (state_of connection.new)) }
     ensures part { P.tells → (d : Database) (state : State)
-        → Holds P.Pages pages.old connection.old state d
-        → OnErr result (AnswersPart P.Pages (P.shape pages.old).pages d connection.old.trx.session
-        number state (meant connection.old.trx.session text.now state) pages.old pages.new) }
+        → Holds P.Pages connection.old.context.pages (state_of connection.old) state d
+        → OnErr result (AnswersPart P.Pages (P.shape connection.old.context.pages).pages d
+        connection.old.context.trx.session number state
+        (meant connection.old.context.trx.session text.now state)
+        connection.old.context.pages connection.new.context.pages) }
     ensures sound { P.tells → (d : Database) (state : State)
-        → Holds P.Pages pages.old connection.old state d → IfErr result IsNoDamageOrLacks }
+        → Holds P.Pages connection.old.context.pages (state_of connection.old) state d
+        → IfErr result IsNoDamageOrLacks }
     ensures later { IfErr result NamesLaterOrLacks }
 {
-    match connection.answer(pages, text) {
-        Ok(reply) => print_reply(alloc, connection, pages, number, &reply),
+    match connection.answer(text) {
+        Ok(reply) => print_reply(alloc, connection, number, &reply),
         Err(fault) => Err(fault),
     }
 }
@@ -80,28 +90,33 @@ fn answer_text<P: Pages>(
 /// Answers the session's texts, one after another.
 pub(crate) fn answer_texts<P: Pages>(
     alloc: Global,
-    connection: &mut Connection,
-    pages: &mut P,
+    connection: &mut Connection<P>,
     texts: &[Bytes],
 ) -> Result<(), Fault>
-    requires serves { Serves P.Pages pages.old connection.old.defs }
-    ensures stays { StaysPlaying P.Pages pages.old pages.new result }
-    ensures serves { OnOk result (Serves P.Pages pages.new connection.new.defs) }
-    ensures session { OnOk result (connection.new.trx.session ≡ connection.old.trx.session) }
+    requires serves { Serves P.Pages connection.old.context.pages connection.old.context.tables }
+    ensures stays { StaysPlaying P.Pages connection.old.context.pages
+        connection.new.context.pages result }
+    ensures serves { OnOk result (Serves P.Pages connection.new.context.pages
+        connection.new.context.tables) }
+    ensures session { OnOk result (connection.new.context.trx.session
+        ≡ connection.old.context.trx.session) }
     ensures answered { P.tells → (base : Full) (d : Database) (state : State)
-        → Runs P.Pages pages.old connection.old state d
-        → OnOk result (HasTexts P.Pages (P.shape pages.old).pages base d connection.old.trx.session
-        texts.now state pages.old pages.new connection.new) }
+        → Runs P.Pages connection.old.context.pages (state_of connection.old) state d
+        → OnOk result (HasTexts P.Pages (P.shape connection.old.context.pages).pages base d
+        connection.old.context.trx.session texts.now state connection.old.context.pages
+        connection.new.context.pages (state_of connection.new)) }
     ensures part { P.tells → (base : Full) (d : Database) (state : State)
-        → Runs P.Pages pages.old connection.old state d
-        → OnErr result (TextsPart P.Pages (P.shape pages.old).pages base d
-        connection.old.trx.session texts.now state pages.old pages.new) }
+        → Runs P.Pages connection.old.context.pages (state_of connection.old) state d
+        → OnErr result (TextsPart P.Pages (P.shape connection.old.context.pages).pages base d
+        connection.old.context.trx.session texts.now state connection.old.context.pages
+        connection.new.context.pages) }
     ensures sound { P.tells → (d : Database) (state : State)
-        → Runs P.Pages pages.old connection.old state d → IfErr result IsNoDamageOrLacks }
+        → Runs P.Pages connection.old.context.pages (state_of connection.old) state d
+        → IfErr result IsNoDamageOrLacks }
     ensures later { IfErr result NamesLaterOrLacks }
 {
     for (i, text) in texts.iter().enumerate() {
-        match answer_text(alloc, connection, pages, i as u64 + 1, text) {
+        match answer_text(alloc, connection, i as u64 + 1, text) {
             Ok(()) => {}
             Err(fault) => return Err(fault),
         }
@@ -112,24 +127,26 @@ pub(crate) fn answer_texts<P: Pages>(
 /// Gives up what is open, and prints the line of the session's end.
 pub(crate) fn end_session<P: Pages>(
     alloc: Global,
-    connection: &mut Connection,
-    pages: &mut P,
+    connection: &mut Connection<P>,
     number: u64,
 ) -> Result<(), Fault>
-    requires serves { Serves P.Pages pages.old connection.old.defs }
-    ensures stays { StaysPlaying P.Pages pages.old pages.new result }
+    requires serves { Serves P.Pages connection.old.context.pages connection.old.context.tables }
+    ensures stays { StaysPlaying P.Pages connection.old.context.pages
+        connection.new.context.pages result }
     ensures ended { P.tells → (d : Database) (state : State)
-        → Holds P.Pages pages.old connection.old state d
-        → OnOk result (HasEnded P.Pages (P.shape pages.old).pages d connection.old.trx.session
-        number state pages.old pages.new connection.new) }
-    ensures part { P.tells → OnErr result (PrintsReply P.Pages connection.old.trx.session number
-        Reply.End pages.old pages.new) }
+        → Holds P.Pages connection.old.context.pages (state_of connection.old) state d
+        → OnOk result (HasEnded P.Pages (P.shape connection.old.context.pages).pages d
+        connection.old.context.trx.session number state connection.old.context.pages
+        connection.new.context.pages (state_of connection.new)) }
+    ensures part { P.tells → OnErr result (PrintsReply P.Pages connection.old.context.trx.session
+        number Reply.End connection.old.context.pages connection.new.context.pages) }
     ensures sound { P.tells → (d : Database) (state : State)
-        → Holds P.Pages pages.old connection.old state d → IfErr result IsNoDamageOrLacks }
+        → Holds P.Pages connection.old.context.pages (state_of connection.old) state d
+        → IfErr result IsNoDamageOrLacks }
     ensures later { IfErr result NamesLaterOrLacks }
 {
-    match connection.roll_back(pages) {
-        Ok(()) => print_reply(alloc, connection, pages, number, &Reply::End),
+    match connection.roll_back() {
+        Ok(()) => print_reply(alloc, connection, number, &Reply::End),
         Err(fault) => Err(fault),
     }
 }

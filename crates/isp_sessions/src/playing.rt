@@ -1,6 +1,7 @@
 //! The setup and then the session of a script, from the tables that the file has.
 
 ghost use Rattle.std.specs.Prelude.{◌≡◌, ◌+◌, ◌<◌, ◌^◌, false, true, length, All, IfErr, OnErr, OnOk};
+ghost use Rattle.isp_connection.specs.Connections.{state_of};
 ghost use Rattle.isp_tables.specs.Calls.{Serves};
 ghost use Rattle.isp_image.specs.Databases.{Database, tables_of};
 ghost use Rattle.isp_image.specs.Faults.{NamesLaterOrLacks};
@@ -48,159 +49,166 @@ fn count_script(script: &Script)
 }
 
 // Answers the script's setup.
-fn answer_setup<P: Pages>(alloc: Global, script: &Script, pages: &mut P) -> Result<(), Fault>
-    requires usable { P.usable pages.old ≡ true }
-    requires none { (P.mini pages.old).is_begun ≡ false }
-    ensures stays { StaysPlaying P.Pages pages.old pages.new result }
+fn answer_setup<P: Pages>(alloc: Global, script: &Script, pages: P) -> (Result<(), Fault>, P)
+    requires usable { P.usable pages ≡ true }
+    requires none { (P.mini pages).is_begun ≡ false }
+    ensures stays { StaysPlaying P.Pages pages result.1 result.0 }
     ensures answered { P.tells → (d : Database)
-        → IsAtRest (P.shape pages.old).pages (P.contents pages.old) d
-        → OnOk result (HasSetup P.Pages (P.shape pages.old).pages d script.now.setup pages.old
-        pages.new) }
+        → IsAtRest (P.shape pages).pages (P.contents pages) d
+        → OnOk result.0 (HasSetup P.Pages (P.shape pages).pages d script.now.setup pages
+        result.1) }
     ensures part { P.tells → (d : Database)
-        → IsAtRest (P.shape pages.old).pages (P.contents pages.old) d
-        → OnErr result (SetupPart P.Pages (P.shape pages.old).pages d script.now.setup pages.old
-        pages.new) }
+        → IsAtRest (P.shape pages).pages (P.contents pages) d
+        → OnErr result.0 (SetupPart P.Pages (P.shape pages).pages d script.now.setup pages
+        result.1) }
     ensures sound { P.tells → (d : Database)
-        → IsAtRest (P.shape pages.old).pages (P.contents pages.old) d
-        → IfErr result IsNoDamageOrLacks }
-    ensures later { IfErr result NamesLaterOrLacks }
+        → IsAtRest (P.shape pages).pages (P.contents pages) d
+        → IfErr result.0 IsNoDamageOrLacks }
+    ensures later { IfErr result.0 NamesLaterOrLacks }
 {
     match Connection::open(alloc, pages, 0) {
-        Ok(mut connection) => {
-            answer_texts(alloc, &mut connection, pages, script.setup.as_slice())
+        Ok(connection) => {
+            let mut connection = connection;
+            let end = answer_texts(alloc, &mut connection, script.setup.as_slice());
+            (end, connection.into_pages())
         }
-        Err(fault) => Err(fault),
+        Err((fault, pages)) => (Err(fault), pages),
     }
 }
 
 // Answers the session's texts, and prints its end.
 fn answer_all<P: Pages>(
     alloc: Global,
-    connection: &mut Connection,
-    pages: &mut P,
+    connection: &mut Connection<P>,
     texts: &[Bytes],
 ) -> Result<(), Fault>
-    requires serves { Serves P.Pages pages.old connection.old.defs }
-    ensures stays { StaysPlaying P.Pages pages.old pages.new result }
+    requires serves { Serves P.Pages connection.old.context.pages connection.old.context.tables }
+    ensures stays { StaysPlaying P.Pages connection.old.context.pages
+        connection.new.context.pages result }
     ensures answered { P.tells → (base : Full) (d : Database) (state : State)
-        → Runs P.Pages pages.old connection.old state d
-        → OnOk result (HasSession P.Pages (P.shape pages.old).pages base d
-        connection.old.trx.session texts.now state pages.old pages.new) }
+        → Runs P.Pages connection.old.context.pages (state_of connection.old) state d
+        → OnOk result (HasSession P.Pages (P.shape connection.old.context.pages).pages base d
+        connection.old.context.trx.session texts.now state connection.old.context.pages
+        connection.new.context.pages) }
     ensures part { P.tells → (base : Full) (d : Database) (state : State)
-        → Runs P.Pages pages.old connection.old state d
-        → OnErr result (SessionPart P.Pages (P.shape pages.old).pages base d
-        connection.old.trx.session texts.now state pages.old pages.new) }
+        → Runs P.Pages connection.old.context.pages (state_of connection.old) state d
+        → OnErr result (SessionPart P.Pages (P.shape connection.old.context.pages).pages base d
+        connection.old.context.trx.session texts.now state connection.old.context.pages
+        connection.new.context.pages) }
     ensures sound { P.tells → (d : Database) (state : State)
-        → Runs P.Pages pages.old connection.old state d → IfErr result IsNoDamageOrLacks }
+        → Runs P.Pages connection.old.context.pages (state_of connection.old) state d
+        → IfErr result IsNoDamageOrLacks }
     ensures later { IfErr result NamesLaterOrLacks }
 {
-    match answer_texts(alloc, connection, pages, texts) {
-        Ok(()) => end_session(alloc, connection, pages, end_number(texts)),
+    match answer_texts(alloc, connection, texts) {
+        Ok(()) => end_session(alloc, connection, end_number(texts)),
         Err(fault) => Err(fault),
     }
 }
 
-fn answer_session<P: Pages>(alloc: Global, pages: &mut P, session: &Session) -> Result<(), Fault>
+fn answer_session<P: Pages>(alloc: Global, pages: P, session: &Session) -> (Result<(), Fault>, P)
     requires slot { HasSlot session.now }
-    requires usable { P.usable pages.old ≡ true }
-    requires none { (P.mini pages.old).is_begun ≡ false }
-    ensures stays { StaysPlaying P.Pages pages.old pages.new result }
+    requires usable { P.usable pages ≡ true }
+    requires none { (P.mini pages).is_begun ≡ false }
+    ensures stays { StaysPlaying P.Pages pages result.1 result.0 }
     ensures answered { P.tells → (base : Full) (d : Database)
-        → IsAtRest (P.shape pages.old).pages (P.contents pages.old) d
-        → OnOk result (HasSession P.Pages (P.shape pages.old).pages base d session.now.number
-        session.now.texts (settled (tables_of d)) pages.old pages.new) }
+        → IsAtRest (P.shape pages).pages (P.contents pages) d
+        → OnOk result.0 (HasSession P.Pages (P.shape pages).pages base d session.now.number
+        session.now.texts (settled (tables_of d)) pages result.1) }
     ensures part { P.tells → (base : Full) (d : Database)
-        → IsAtRest (P.shape pages.old).pages (P.contents pages.old) d
-        → OnErr result (SessionPart P.Pages (P.shape pages.old).pages base d session.now.number
-        session.now.texts (settled (tables_of d)) pages.old pages.new) }
+        → IsAtRest (P.shape pages).pages (P.contents pages) d
+        → OnErr result.0 (SessionPart P.Pages (P.shape pages).pages base d session.now.number
+        session.now.texts (settled (tables_of d)) pages result.1) }
     ensures sound { P.tells → (d : Database)
-        → IsAtRest (P.shape pages.old).pages (P.contents pages.old) d
-        → IfErr result IsNoDamageOrLacks }
-    ensures later { IfErr result NamesLaterOrLacks }
+        → IsAtRest (P.shape pages).pages (P.contents pages) d
+        → IfErr result.0 IsNoDamageOrLacks }
+    ensures later { IfErr result.0 NamesLaterOrLacks }
 {
     match Connection::open(alloc, pages, session.number) {
-        Ok(mut connection) => {
-            answer_all(alloc, &mut connection, pages, session.texts.as_slice())
+        Ok(connection) => {
+            let mut connection = connection;
+            let end = answer_all(alloc, &mut connection, session.texts.as_slice());
+            (end, connection.into_pages())
         }
-        Err(fault) => Err(fault),
+        Err((fault, pages)) => (Err(fault), pages),
     }
 }
 
 // Answers the one session, where there is one. A script has no more of them yet.
-fn answer_sessions<P: Pages>(alloc: Global, script: &Script, pages: &mut P) -> Result<(), Fault>
+fn answer_sessions<P: Pages>(alloc: Global, script: &Script, pages: P) -> (Result<(), Fault>, P)
     requires slots { All HasSlot script.now.sessions }
-    requires usable { P.usable pages.old ≡ true }
-    requires none { (P.mini pages.old).is_begun ≡ false }
-    ensures stays { StaysPlaying P.Pages pages.old pages.new result }
+    requires usable { P.usable pages ≡ true }
+    requires none { (P.mini pages).is_begun ≡ false }
+    ensures stays { StaysPlaying P.Pages pages result.1 result.0 }
     ensures answered { P.tells → IsAlone script.now.sessions → (base : Full) (d : Database)
-        → IsAtRest (P.shape pages.old).pages (P.contents pages.old) d
-        → OnOk result (HasSessions P.Pages (P.shape pages.old).pages base d script.now.sessions
-        pages.old pages.new) }
+        → IsAtRest (P.shape pages).pages (P.contents pages) d
+        → OnOk result.0 (HasSessions P.Pages (P.shape pages).pages base d script.now.sessions
+        pages result.1) }
     ensures part { P.tells → IsAlone script.now.sessions → (base : Full) (d : Database)
-        → IsAtRest (P.shape pages.old).pages (P.contents pages.old) d
-        → OnErr result (SessionsPart P.Pages (P.shape pages.old).pages base d script.now.sessions
-        pages.old pages.new) }
+        → IsAtRest (P.shape pages).pages (P.contents pages) d
+        → OnErr result.0 (SessionsPart P.Pages (P.shape pages).pages base d script.now.sessions
+        pages result.1) }
     ensures sound { P.tells → (d : Database)
-        → IsAtRest (P.shape pages.old).pages (P.contents pages.old) d
-        → IfErr result IsNoDamageOrLacks }
-    ensures later { IfErr result NamesLaterOrLacks }
+        → IsAtRest (P.shape pages).pages (P.contents pages) d
+        → IfErr result.0 IsNoDamageOrLacks }
+    ensures later { IfErr result.0 NamesLaterOrLacks }
 {
     match script.sessions.as_slice() {
         [session, ..] => answer_session(alloc, pages, session),
-        [] => Ok(()),
+        [] => (Ok(()), pages),
     }
 }
 
 // Answers the setup and then the session.
-fn answer_script<P: Pages>(alloc: Global, script: &Script, pages: &mut P) -> Result<(), Fault>
+fn answer_script<P: Pages>(alloc: Global, script: &Script, pages: P) -> (Result<(), Fault>, P)
     requires slots { All HasSlot script.now.sessions }
-    requires usable { P.usable pages.old ≡ true }
-    requires none { (P.mini pages.old).is_begun ≡ false }
-    ensures stays { StaysPlaying P.Pages pages.old pages.new result }
+    requires usable { P.usable pages ≡ true }
+    requires none { (P.mini pages).is_begun ≡ false }
+    ensures stays { StaysPlaying P.Pages pages result.1 result.0 }
     ensures played { P.tells → IsAlone script.now.sessions → (d : Database)
-        → IsAtRest (P.shape pages.old).pages (P.contents pages.old) d
-        → OnOk result (Played (P.shape pages.old).pages script.now d (P.contents pages.new)
-        (P.printed pages.old) (P.printed pages.new)) }
+        → IsAtRest (P.shape pages).pages (P.contents pages) d
+        → OnOk result.0 (Played (P.shape pages).pages script.now d (P.contents result.1)
+        (P.printed pages) (P.printed result.1)) }
     ensures part { P.tells → IsAlone script.now.sessions → (d : Database)
-        → IsAtRest (P.shape pages.old).pages (P.contents pages.old) d
-        → OnErr result (PlayedPart (P.shape pages.old).pages script.now d
-        (P.printed pages.old) (P.printed pages.new)) }
+        → IsAtRest (P.shape pages).pages (P.contents pages) d
+        → OnErr result.0 (PlayedPart (P.shape pages).pages script.now d
+        (P.printed pages) (P.printed result.1)) }
     ensures sound { P.tells → (d : Database)
-        → IsAtRest (P.shape pages.old).pages (P.contents pages.old) d
-        → IfErr result IsNoDamageOrLacks }
-    ensures later { IfErr result NamesLaterOrLacks }
+        → IsAtRest (P.shape pages).pages (P.contents pages) d
+        → IfErr result.0 IsNoDamageOrLacks }
+    ensures later { IfErr result.0 NamesLaterOrLacks }
 {
     match answer_setup(alloc, script, pages) {
-        Ok(()) => answer_sessions(alloc, script, pages),
-        Err(fault) => Err(fault),
+        (Ok(()), pages) => answer_sessions(alloc, script, pages),
+        (Err(fault), pages) => (Err(fault), pages),
     }
 }
 
 /// Answers the setup and then the session of the script, whose number is that of an undo slot, from the tables that the file has,
-/// and prints each answer's line.
+/// and prints each answer's line. The pages come back in any case.
 /// What was committed stays in the pages; a transaction that is open at a session's end is taken back.
 ///
 /// # Errors
 ///
 /// Memory; or Disk, Print; or Damaged, on pages that are no kept file.
-pub fn play<P: Pages>(alloc: Global, script: &Script, pages: &mut P) -> Result<(), Fault>
+pub fn play<P: Pages>(alloc: Global, script: &Script, pages: P) -> (Result<(), Fault>, P)
     requires slots { All HasSlot script.now.sessions }
-    requires usable { P.usable pages.old ≡ true }
-    requires none { (P.mini pages.old).is_begun ≡ false }
-    ensures stays { StaysPlaying P.Pages pages.old pages.new result }
+    requires usable { P.usable pages ≡ true }
+    requires none { (P.mini pages).is_begun ≡ false }
+    ensures stays { StaysPlaying P.Pages pages result.1 result.0 }
     ensures small { IsSmall script.now }
     ensures played { P.tells → IsAlone script.now.sessions → (d : Database)
-        → IsAtRest (P.shape pages.old).pages (P.contents pages.old) d
-        → OnOk result (Played (P.shape pages.old).pages script.now d (P.contents pages.new)
-        (P.printed pages.old) (P.printed pages.new)) }
+        → IsAtRest (P.shape pages).pages (P.contents pages) d
+        → OnOk result.0 (Played (P.shape pages).pages script.now d (P.contents result.1)
+        (P.printed pages) (P.printed result.1)) }
     ensures part { P.tells → IsAlone script.now.sessions → (d : Database)
-        → IsAtRest (P.shape pages.old).pages (P.contents pages.old) d
-        → OnErr result (PlayedPart (P.shape pages.old).pages script.now d
-        (P.printed pages.old) (P.printed pages.new)) }
+        → IsAtRest (P.shape pages).pages (P.contents pages) d
+        → OnErr result.0 (PlayedPart (P.shape pages).pages script.now d
+        (P.printed pages) (P.printed result.1)) }
     ensures sound { P.tells → (d : Database)
-        → IsAtRest (P.shape pages.old).pages (P.contents pages.old) d
-        → IfErr result IsNoDamageOrLacks }
-    ensures later { IfErr result NamesLaterOrLacks }
+        → IsAtRest (P.shape pages).pages (P.contents pages) d
+        → IfErr result.0 IsNoDamageOrLacks }
+    ensures later { IfErr result.0 NamesLaterOrLacks }
 {
     count_script(script);
     answer_script(alloc, script, pages)

@@ -1,20 +1,27 @@
 use Rattle.isp_run.proofs.WorkLaws.{all_done, placing_stops, play_stops}
 use Rattle.isp_run.proofs.running.work_on.Goals as goal
 
-pub returns-in-Ok-checkpoint : goal.returns-in-Ok-checkpoint
-returns-in-Ok-checkpoint g c = record {
-  worked = all_done g.W.World c.args.script.now c.in-Ok.ensures.small c.args.store.now c.play.new.pages c.checkpoint.new.self
-      c.in-Ok.ensures.stays c.in-Ok.ensures.played c.in-Ok-checkpoint.ensures.flushed c.in-Ok-checkpoint.ensures.contents c.in-Ok-checkpoint.ensures.in_place;
-}
-
-pub returns-in-Err-checkpoint : goal.returns-in-Err-checkpoint
-returns-in-Err-checkpoint g c = record {
-  worked = placing_stops g.W.World c.args.script.now c.in-Ok.ensures.small c.args.store.now c.play.new.pages c.checkpoint.new.self c.in-Err-checkpoint.fault c.status_of.result c.status_of.ensures
-      c.in-Ok.ensures.stays c.in-Ok.ensures.played c.in-Err-checkpoint.ensures.flushed c.in-Err-checkpoint.ensures.sound;
-}
+pub returns-in-Ok : goal.returns-in-Ok
+returns-in-Ok g c =
+    let e = c.play.ensures in
+    let s = c.in-Ok.ensures in
+    record {
+      worked = all_done g.W.World c.args.script.now e.small c.args.store c.play.result.1 c.checkpoint.new.self c.play.result.0 _ c.in-Ok-default.is-0 e.stays e.played s.flushed s.contents s.in_place;
+    }
 
 pub returns-in-Err : goal.returns-in-Err
-returns-in-Err g c = record {
-  worked = play_stops g.W.World c.args.script.now c.in-Err.ensures.small c.args.store.now c.play.new.pages c.in-Err.fault c.status_of-in-Err.result c.status_of-in-Err.ensures
-      c.in-Err.ensures.stays c.in-Err.ensures.part c.in-Err.ensures.sound c.in-Err.ensures.later;
-}
+returns-in-Err g c =
+    let e = c.play.ensures in
+    let s = c.in-Err.ensures in
+    record {
+      worked = placing_stops g.W.World c.args.script.now e.small c.args.store c.play.result.1 c.checkpoint.new.self c.play.result.0 _ c.in-Ok-default.is-0 c.in-Err.fault c.status_of.result c.status_of.ensures
+          e.stays e.played s.flushed s.sound;
+    }
+
+pub returns-in-Err-default : goal.returns-in-Err-default
+returns-in-Err-default g c =
+    let e = c.play.ensures in
+    record {
+      worked = play_stops g.W.World c.args.script.now e.small c.args.store c.play.result.1 c.play.result.0 c.in-Err-default.fault c.in-Err-default.is-0 c.status_of-in-Err-default.result c.status_of-in-Err-default.ensures
+          e.stays e.part e.sound e.later;
+    }

@@ -4,7 +4,8 @@ use Rattle.isp_plain.specs.declared.statement.Statement.{Statement}
 use Rattle.isp_plain.specs.declared.statement.Statement.TheVariants.{Rollback}
 use Rattle.isp_serial.specs.Alone.{effect_by}
 use Rattle.isp_connection.specs.Answering.{Answered}
-use Rattle.isp_connection.proofs.EndLaws.{answered_ok, answered_on}
+use Rattle.isp_connection.specs.Connections.{state_of}
+use Rattle.isp_connection.proofs.EndLaws.{answered_ok}
 use Rattle.isp_connection.proofs.connection.Connection.obey.Goals as goal
 
 pub returns-in_err-commit-in-Commit-clause-sound : goal.returns-in_err-commit-in-Commit-clause-sound
@@ -19,36 +20,24 @@ returns-in_err-roll_back-in-Rollback-clause-sound g c tells d state h may =
 
 pub returns-in_ok-roll_back-in-Rollback-clause-answered : goal.returns-in_ok-roll_back-in-Rollback-clause-answered
 returns-in_ok-roll_back-in-Rollback-clause-answered g c tells d state h may =
-    let new = c.roll_back.new in
+    let new = c.roll_back.new.self in
     let back = c.in_ok-roll_back-in-Rollback.ensures.back tells d state h in
-    subst (λ (s : Statement). Answered g.P.Pages new.pages new.self state s d reply.Ok) (sym c.in-Rollback.is) (answered_ok g.P.Pages new.pages new.self state d reply.Ok Rollback refl back)
+    subst (λ (s : Statement). Answered g.P.Pages new.context.pages (state_of new) state s d reply.Ok) (sym c.in-Rollback.is) (answered_ok g.P.Pages new.context.pages (state_of new) state d reply.Ok Rollback refl back)
 
-pub returns-in-Create-clause-answered : goal.returns-in-Create-clause-answered
-returns-in-Create-clause-answered g c tells d state h may =
-    let e = c.execute in
-    answered_on g.P.Pages e.new.pages e.new.self state d c.args.statement e.result (ap effect_by c.in-Create.is) (e.ensures.executed tells d state h may)
+pub execute-requires-clause-stays : goal.execute-requires-clause-stays
+execute-requires-clause-stays g c = ap effect_by c.in-Create.is
 
-pub returns-in-Insert-clause-answered : goal.returns-in-Insert-clause-answered
-returns-in-Insert-clause-answered g c tells d state h may =
-    let e = c.execute-in-Insert in
-    answered_on g.P.Pages e.new.pages e.new.self state d c.args.statement e.result (ap effect_by c.in-Insert.is) (e.ensures.executed tells d state h may)
+pub execute-requires-in-Insert-clause-stays : goal.execute-requires-in-Insert-clause-stays
+execute-requires-in-Insert-clause-stays g c = ap effect_by c.in-Insert.is
 
-pub returns-in-Select-clause-answered : goal.returns-in-Select-clause-answered
-returns-in-Select-clause-answered g c tells d state h may =
-    let e = c.execute-in-Select in
-    answered_on g.P.Pages e.new.pages e.new.self state d c.args.statement e.result (ap effect_by c.in-Select.is) (e.ensures.executed tells d state h may)
+pub execute-requires-in-Select-clause-stays : goal.execute-requires-in-Select-clause-stays
+execute-requires-in-Select-clause-stays g c = ap effect_by c.in-Select.is
 
-pub returns-in-Update-clause-answered : goal.returns-in-Update-clause-answered
-returns-in-Update-clause-answered g c tells d state h may =
-    let e = c.execute-in-Update in
-    answered_on g.P.Pages e.new.pages e.new.self state d c.args.statement e.result (ap effect_by c.in-Update.is) (e.ensures.executed tells d state h may)
+pub execute-requires-in-Update-clause-stays : goal.execute-requires-in-Update-clause-stays
+execute-requires-in-Update-clause-stays g c = ap effect_by c.in-Update.is
 
-pub returns-in-Delete-clause-answered : goal.returns-in-Delete-clause-answered
-returns-in-Delete-clause-answered g c tells d state h may =
-    let e = c.execute-in-Delete in
-    answered_on g.P.Pages e.new.pages e.new.self state d c.args.statement e.result (ap effect_by c.in-Delete.is) (e.ensures.executed tells d state h may)
+pub execute-requires-in-Delete-clause-stays : goal.execute-requires-in-Delete-clause-stays
+execute-requires-in-Delete-clause-stays g c = ap effect_by c.in-Delete.is
 
-pub returns-in-Refused-clause-answered : goal.returns-in-Refused-clause-answered
-returns-in-Refused-clause-answered g c tells d state h may =
-    let e = c.execute-in-Refused in
-    answered_on g.P.Pages e.new.pages e.new.self state d c.args.statement e.result (ap effect_by c.in-Refused.is) (e.ensures.executed tells d state h may)
+pub execute-requires-in-Refused-clause-stays : goal.execute-requires-in-Refused-clause-stays
+execute-requires-in-Refused-clause-stays g c = ap effect_by c.in-Refused.is
