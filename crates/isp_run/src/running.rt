@@ -10,6 +10,7 @@ ghost use Rattle.isp_run.specs.Working.{HasWorked, RunsOn};
 ghost use Rattle.isp_script.specs.BadLines.{IsBadLine};
 ghost use Rattle.isp_sessions.specs.Plays.{HasSlot};
 ghost use Rattle.isp_store.specs.State.{contents, mini, shape};
+ghost use Rattle.isp_words.specs.Commands.{least_frames, most_frames};
 ghost use Rattle.isp_words.specs.declared.Command.TheVariants as commands;
 
 use crate::gate::is_made;
@@ -30,8 +31,8 @@ pub fn run_file<S: Source, W: World>(
     world: W,
     frames: u32,
 ) -> (Status, W)
-    requires least { 64 ≤ frames }
-    requires most { frames ≤ 4096 }
+    requires least { least_frames ≤ frames }
+    requires most { frames ≤ most_frames }
     ensures statuses { IsRunStatus result.0 }
     ensures gate { W.tells → ByGate (Some (commands.Run frames)) (W.image world) result.0 }
     ensures serial { S.tells → W.tells → result.0 ≡ Status.Done → RanOf (S.left script.old)
@@ -69,8 +70,8 @@ fn run_script<S: Source, W: World>(
     world: W,
     frames: u32,
 ) -> (Status, W)
-    requires least { 64 ≤ frames }
-    requires most { frames ≤ 4096 }
+    requires least { least_frames ≤ frames }
+    requires most { frames ≤ most_frames }
     ensures statuses { IsScriptStatus result.0 }
     ensures serial { S.tells → W.tells → result.0 ≡ Status.Done → RanOf (S.left script.old)
         (W.printed world) (W.printed result.1) (W.image world) (W.image result.1) }
@@ -102,8 +103,8 @@ fn run_script<S: Source, W: World>(
 // Opens the file, runs the script on it, and closes it.
 fn run_on<W: World>(alloc: Global, script: &Script, world: W, frames: u32) -> (Status, W)
     requires slots { All HasSlot script.now.sessions }
-    requires least { 64 ≤ frames }
-    requires most { frames ≤ 4096 }
+    requires least { least_frames ≤ frames }
+    requires most { frames ≤ most_frames }
     ensures runs { RunsOn W.World script.now world result.0 result.1 }
 {
     match Store::start(alloc, world, frames as usize) {
