@@ -6,11 +6,10 @@ use Rattle.std.specs.Str.{bytes_eq}
 use Rattle.isp_catalog.specs.declared.table.TableDef.{TableDef}
 use Rattle.isp_changes.specs.Stages.{is_insert}
 use Rattle.isp_plain.specs.declared.refusal.Refusal.{Refusal}
-use Rattle.isp_plain.specs.declared.refusal.Refusal.TheVariants.{FileFull}
 use Rattle.isp_plain.specs.declared.statement.Reply.TheVariants as reply
 use Rattle.isp_plain.specs.declared.statement.Statement.{Statement}
 use Rattle.isp_plain.specs.declared.statement.Statement.TheVariants.{Create, Insert, Select, Update, Delete, Begin, Commit, Rollback, Refused}
-use Rattle.isp_work.specs.Works.{answered, failed_by, first_of, is_delete, looked_by, made_by, passed, rows_named, went_on}
+use Rattle.isp_work.specs.Works.{answered, failed_by, first_of, is_delete, looked_by, passed, rows_named, went_on}
 use Rattle.isp_work.specs.declared.found.Looked.{Looked}
 use Rattle.isp_work.specs.declared.found.Looked.TheVariants as looked
 use Rattle.isp_work.specs.declared.phase.Phase.TheVariants.{Undoing}

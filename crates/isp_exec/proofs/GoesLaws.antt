@@ -10,12 +10,13 @@ use Rattle.isp_plain.specs.declared.refusal.Refusal.{Refusal}
 use Rattle.isp_plain.specs.declared.refusal.Refusal.TheVariants.{FileFull}
 use Rattle.isp_plain.specs.declared.statement.Reply.{Reply}
 use Rattle.isp_plain.specs.declared.statement.Reply.TheVariants as reply
+use Rattle.isp_tables.specs.Calls.{IsFlushedIf}
 use Rattle.isp_trx.specs.Transactions.{TrxState}
 use Rattle.isp_work.specs.Works.{answered, is_ready, made_by}
 use Rattle.isp_work.specs.declared.phase.Phase.{Phase as WorkPhase}
 use Rattle.isp_work.specs.declared.phase.Phase.TheVariants.{Creating, Reading, Looking, Changing, Undoing, RollingBack, Ready}
 use Rattle.isp_work.specs.declared.progress.Progress.{Progress}
-use Rattle.isp_exec.specs.Events.{Goes, RollsBack, TakesBack, event_by, goes_on}
+use Rattle.isp_exec.specs.Events.{Goes, IsFlushedAt, RollsBack, TakesBack, event_by, goes_on}
 use Rattle.isp_exec.specs.Standing.{IsAt, IsFit, height}
 use Rattle.isp_exec.specs.declared.step.Step.{Step}
 use Rattle.isp_exec.specs.declared.step.Step.TheVariants as answers
@@ -128,3 +129,13 @@ module _ {S : Type 0} (g : Ghosts S) (old : S) (defs : List TableDef) (trx : Trx
 pub rolls_on : {S : Type 0} (g : Ghosts S) (now : S) (defs : List TableDef) (trx : TrxState) (work : Progress) (d : Database) → work.phase ≡ RollingBack → (result : Result Step Fault) → IfOk result (TakesBack g now defs trx d) → IfOk result (RollsBack g now defs trx work d)
 rolls_on g now defs trx work d phase (Ok step) back = (back, phase)
 rolls_on g now defs trx work d phase (Err fault) back = tt
+
+-- ---- what was made is flushed
+
+pub made_flushed : {S : Type 0} (g : Ghosts S) (now : S) (work : Progress) (made : Bool) (count : ℕ) → IsFlushedIf g now made → IsFlushedAt g now (given_by (made_by work made count))
+made_flushed g now work true count flushed = flushed
+made_flushed g now work false count flushed = by (nat_lt work.base count)
+  where
+    by : (b : Bool) → IsFlushedAt g now (given_by (if b then record work { phase = Undoing FileFull } else answered work (reply.Err FileFull)))
+    by true = tt
+    by false = tt

@@ -85,17 +85,6 @@ start_base Commit base budget o not = refl
 start_base Rollback base budget o not = cc
 start_base (Refused refusal) base budget o not = refl
 
-pub start_rolls : (s : Statement) (base budget : ℕ) (o : Option ℕ) → is_rollback s ≡ true → (start_of s base budget o).phase ≡ RollingBack
-start_rolls (Create name schema) base budget o is = cc
-start_rolls (Insert name rows) base budget o is = cc
-start_rolls (Select name columns w) base budget o is = cc
-start_rolls (Update name sets w) base budget o is = cc
-start_rolls (Delete name w) base budget o is = cc
-start_rolls Begin base budget o is = cc
-start_rolls Commit base budget o is = cc
-start_rolls Rollback base budget o is = refl
-start_rolls (Refused refusal) base budget o is = cc
-
 -- ---- its rows can be written
 
 insert_writable : (name : List ℕ) (rows : List Row) (base budget : ℕ) (o : Option ℕ) (d : Database) → is_lined_statement (Insert name rows) ≡ true → AreWritableNow (start_at (Insert name rows) base budget o) d

@@ -13,6 +13,7 @@ use Rattle.isp_plain.specs.declared.statement.Reply.{Reply}
 use Rattle.isp_plain.specs.declared.statement.Reply.TheVariants as reply
 use Rattle.isp_plain.specs.declared.statement.Statement.{Statement}
 use Rattle.isp_space.specs.Spaces.{has_room}
+use Rattle.isp_tables.specs.Calls.{IsFlushedIf}
 use Rattle.isp_tables.specs.Opened.{IsOpen}
 use Rattle.isp_trx.specs.Transactions.{TrxState}
 use Rattle.isp_writes.specs.Writing.{DidUndo}
@@ -97,6 +98,11 @@ pub record Goes {S : Type 0} (g : Ghosts S) {old : S} {defs : List TableDef} {tr
   pub on : goes_on step ≡ true → work_now ≡ work_then
   pub stated : work_then.statement ≡ work.statement
   pub done : (answer : Reply) → step ≡ Ready answer → (work_then.phase ≡ phase.Ready) × (work_then.reply ≡ answer)
+
+-- a table that was made is there whatever a stop leaves
+abbrev pub IsFlushedAt : {S : Type 0} → Ghosts S → S → Step → Type 0
+IsFlushedAt g now (Ready reply.Ok) = IsFlushedIf g now true
+IsFlushedAt g now _ = Unit {0}
 
 -- ---- ROLLBACK
 

@@ -2,7 +2,7 @@
 
 ghost use Rattle.std.specs.Prelude.{◌≡◌, true, false, IfErr, IfOk, OnOk, if◌then◌else◌};
 ghost use Rattle.isp_clustered.specs.Calls.{Lacks};
-ghost use Rattle.isp_exec.specs.Events.{Falls, Goes, CountsBack, RollsBack, TakesBack, event_by, refusal_in, refusal_of_change, refusal_of_look};
+ghost use Rattle.isp_exec.specs.Events.{CountsBack, Falls, Goes, IsFlushedAt, RollsBack, TakesBack, event_by, refusal_in, refusal_of_change, refusal_of_look};
 ghost use Rattle.isp_exec.specs.Standing.{IsAt, IsChanging, IsFit, IsLooking, IsReading};
 ghost use Rattle.isp_image.specs.Databases.{Database};
 ghost use Rattle.isp_image.specs.Faults.{NamesLaterOrLacks};
@@ -102,6 +102,7 @@ fn step_creating<P: Pages>(
     ensures goes { P.tells → (start : Database)
         → (at : IsAt P.Pages pages.old tables.old trx.now start work.old)
         → IfOk result (Goes P.Pages at pages.new tables.new trx.now work.new) }
+    ensures flushed { P.tells → IfOk result (IsFlushedAt P.Pages pages.new) }
     ensures sound { P.tells → (start : Database)
         → IsAt P.Pages pages.old tables.old trx.now start work.old
         → IfErr result IsNoDamageOrLacks }
@@ -277,6 +278,8 @@ pub(crate) fn step<P: Pages>(
     ensures rolls { P.tells → (d : Database) → IsOpen P.Pages pages.old tables.old trx.old d
         → work.old.phase ≡ phase.RollingBack
         → IfOk result (RollsBack P.Pages pages.new tables.new trx.new work.new d) }
+    ensures flushed { P.tells → work.old.phase ≡ phase.Creating
+        → IfOk result (IsFlushedAt P.Pages pages.new) }
     ensures session { trx.new.session ≡ trx.old.session }
     ensures lacks { P.tells → Lacks result (P.contents pages.new ≡ P.contents pages.old) }
     ensures sound { P.tells → (start : Database)

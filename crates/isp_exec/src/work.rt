@@ -8,7 +8,7 @@ ghost use Rattle.isp_page.specs.Steps.{IsNoDamageOrLacks};
 ghost use Rattle.isp_plain.specs.Lined.{is_lined_statement};
 ghost use Rattle.isp_tables.specs.Calls.{Keeps, Serves};
 ghost use Rattle.isp_tables.specs.Opened.{IsOpen};
-ghost use Rattle.isp_exec.specs.Events.{Begins, Falls, Goes, RollsBack};
+ghost use Rattle.isp_exec.specs.Events.{Begins, Falls, Goes, IsFlushedAt, RollsBack};
 ghost use Rattle.isp_exec.specs.Standing.{IsAt, IsFit};
 ghost use Rattle.isp_exec.specs.Starting.{Suits, place_by};
 ghost use Rattle.isp_work.specs.Works.{is_rollback};
@@ -90,6 +90,8 @@ impl Work {
             → self.old.progress.phase ≡ phase.RollingBack
             → IfOk result (RollsBack P.Pages context.new.pages context.new.tables context.new.trx
             self.new.progress d) }
+        ensures flushed { P.tells → self.old.progress.phase ≡ phase.Creating
+            → IfOk result (IsFlushedAt P.Pages context.new.pages) }
         ensures session { context.new.trx.session ≡ context.old.trx.session }
         ensures lacks { P.tells → Lacks result (P.contents context.new.pages
             ≡ P.contents context.old.pages) }

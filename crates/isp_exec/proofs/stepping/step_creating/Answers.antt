@@ -3,10 +3,11 @@ use Rattle.isp_page.specs.State.{FileShape}
 use Rattle.isp_work.specs.Works.{made_by}
 use Rattle.isp_work.specs.declared.progress.Progress.{Progress}
 use Rattle.isp_tables.specs.Creations.{IsCreatable}
+use Rattle.isp_exec.specs.Events.{IsFlushedAt}
 use Rattle.isp_exec.specs.Standing.{IsFit, height}
 use Rattle.isp_exec.proofs.AnswerLaws.{given_by}
 use Rattle.isp_exec.proofs.AtLaws.{created_at}
-use Rattle.isp_exec.proofs.GoesLaws.{goes_as, handed_by, handed_fit, handed_height, handed_made, hands_out}
+use Rattle.isp_exec.proofs.GoesLaws.{goes_as, handed_by, handed_fit, handed_height, handed_made, hands_out, made_flushed}
 use Rattle.isp_exec.proofs.HeightLaws.{made_falls}
 use Rattle.isp_exec.proofs.stepping.step_creating.Goals as goal
 
@@ -48,3 +49,9 @@ returns-clause-falls g c on =
 
 pub returns-clause-statement : goal.returns-clause-statement
 returns-clause-statement g c = ap (λ (w : Progress). w.statement) (c.hand_out.ensures.rest ∙ ap handed_by c.make_on.ensures) ∙ handed_made c.args.work.now c.in_ok-made.made _
+
+pub returns-clause-flushed : goal.returns-clause-flushed
+returns-clause-flushed g c tells =
+    let new = c.create.new.pages in
+    subst (IsFlushedAt g.P.Pages new) (sym (c.hand_out.ensures.result ∙ ap given_by c.make_on.ensures))
+    (made_flushed g.P.Pages new c.args.work.now c.in_ok-made.made c.undo_count.result (c.in_ok-made.ensures.flushed tells))
