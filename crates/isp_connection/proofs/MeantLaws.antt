@@ -1,9 +1,8 @@
 -- What a text means for a session, by what its connection knows of the file's tables.
 use Rattle.std.proofs.Common.{◌≡◌, ℕ, ◌==◌, Bool, true, false, List, [], ◌∷◌, map, refl, sym, ◌∙◌, ap, subst, arith, if◌then◌else◌}
 use Rattle.isp_bound_rows.proofs.MeaningLaws.{create_in_setup}
-use Rattle.isp_image.specs.Databases.{Database, FileTable, table_of, tables_of}
+use Rattle.isp_image.specs.Databases.{Database, FileTable, table_of}
 use Rattle.isp_page.specs.declared.pages.Pages.{Ghosts}
-use Rattle.isp_plain.specs.Tables.{Table}
 use Rattle.isp_plain.specs.declared.statement.Statement.{Statement}
 use Rattle.isp_plain.specs.declared.statement.Statement.TheVariants.{Create, Insert, Select, Update, Delete, Begin, Commit, Rollback, Refused}
 use Rattle.isp_plain.specs.declared.value.Schema.{Schema}
@@ -11,7 +10,6 @@ use Rattle.isp_plan.specs.Meaning.{definitions, meaning, whole}
 use Rattle.isp_plan.proofs.FaithfulLaws.{whole_is_faithful}
 use Rattle.isp_serial.specs.Alone.{State}
 use Rattle.isp_serial.specs.Serial.{place_at}
-use Rattle.isp_serial.specs.declared.script.Place.{Place}
 use Rattle.isp_serial.specs.declared.script.Place.TheVariants as place
 use Rattle.isp_tables.specs.TableLists.{definitions_of}
 use Rattle.isp_tables.proofs.TableLaws.{def_of}

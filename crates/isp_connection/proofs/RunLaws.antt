@@ -1,10 +1,10 @@
 -- A statement is stepped until it is ready.
-use Rattle.std.proofs.Common.{◌≡◌, ℕ, Bool, true, false, List, [], ◌∷◌, ◌++◌, length, map, refl, sym, ◌∙◌, ap, subst, if◌then◌else◌}
+use Rattle.std.proofs.Common.{◌≡◌, ℕ, Bool, true, false, List, [], ◌∷◌, ◌++◌, map, refl, sym, ◌∙◌, ap, subst, if◌then◌else◌}
 use Rattle.isp_catalog.specs.declared.table.TableDef.{TableDef}
 use Rattle.isp_changes.specs.Changes.{RowChange, after_change, after_changes}
 use Rattle.isp_changes.specs.Stages.{BringsBack, found_full, outcome_by, ready}
 use Rattle.isp_chained.specs.Courses.{Reaches}
-use Rattle.isp_chained.proofs.CourseLaws.{reaches_on, reaches_self}
+use Rattle.isp_chained.proofs.CourseLaws.{reaches_on}
 use Rattle.isp_exec.specs.Events.{Goes, RollsBack, TakesBack, goes_on}
 use Rattle.isp_exec.specs.Standing.{IsAt}
 use Rattle.isp_exec.specs.declared.step.Step.{Step}
@@ -108,9 +108,6 @@ pub record UndidSome {S : Type 0} (g : Ghosts S) (now : S) (defs : List TableDef
   pub same : committed after ≡ committed old
   pub reaches : Reaches (g.shape now).pages old after
   pub more : work.phase ≡ RollingBack
-
-pub undid_none : {S : Type 0} (g : Ghosts S) (now : S) (defs : List TableDef) (trx : TrxState) (work : Progress) (d : Database) → IsOpen g now defs trx d → work.phase ≡ RollingBack → UndidSome g now defs trx work d
-undid_none g now defs trx work d opened more = record { after = d; opened = opened; same = refl; reaches = reaches_self (g.shape now).pages d; more = more }
 
 module _ {S : Type 0} (g : Ghosts S) (mid new : S) (defs defs_now : List TableDef) (trx trx_now : TrxState) (work work_now : Progress) (d : Database) (some : UndidSome g mid defs trx work d) (pages : (g.shape new).pages ≡ (g.shape mid).pages) where
   reached : Reaches (g.shape new).pages d some.after

@@ -6,7 +6,6 @@ use Rattle.isp_tables.specs.TableLists.{roots_of}
 use Rattle.isp_tables.proofs.RootLaws.{are_roots}
 use Rattle.isp_chained.specs.Courses.{Reaches}
 use Rattle.isp_image.specs.Databases.{Database, FileImage, HasNoMarked}
-use Rattle.isp_undo.specs.Chains.{Chain}
 use Rattle.isp_chained.specs.Chained.{ChainedFile, no_chains}
 use Rattle.isp_format.specs.Undo.{undo_slots}
 use Rattle.isp_page.specs.declared.pages.Pages.{Ghosts}

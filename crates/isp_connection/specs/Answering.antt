@@ -60,14 +60,14 @@ pub record MayCome (session : ℕ) (state : State) (statement : Statement) : Typ
   pub outside : state.inside ≡ true → is_create statement ≡ false
   pub begins : session ≡ 0 → statement ≡ Begin → ⊥
 
--- The statement is done, or has found the file full, where there was no room; nothing of it is committed.
+-- The statement is done, or has found the file full, where there was no room.
 pub record IsDone {S : Type 0} (g : Ghosts S) (now : S) (defs : List TableDef) (trx : TrxState) (statement : Statement) (old : Database) (answer : Reply) : Type 0 where
   pub full : Bool
   pub after : Database
   pub opened : IsOpen g now defs trx after
   pub answer_is : answer ≡ (if full then reply.Err FileFull else (does (tables_of old) statement).reply)
   pub tables : tables_of after ≡ (if full then tables_of old else (does (tables_of old) statement).tables)
-  -- a table that CREATE has made is committed
+  -- no row that it wrote is committed; a table that CREATE makes is
   pub same : is_create statement ≡ false → committed after ≡ committed old
   pub reaches : Reaches (g.shape now).pages old after
   pub cause : full ≡ true → FillsUp (g.shape now).pages old after

@@ -1,5 +1,5 @@
 -- What a run has printed and leaves of the file, from what its parts say.
-use Rattle.std.proofs.Common.{◌≡◌, ◌∙◌, inl, inr, ℕ, ◌≤◌, ◌+◌, ◌-◌, ◌&&◌, ap, sym, refl, subst, Bool, true, false, not, List, [], ◌∷◌, ◌++◌, length, get_or, length-append, append_assoc, All, arith}
+use Rattle.std.proofs.Common.{◌≡◌, ◌∙◌, inl, inr, ℕ, ◌≤◌, ◌+◌, ◌-◌, ◌&&◌, ap, sym, refl, subst, Bool, true, false, not, List, [], ◌++◌, length, get_or, length-append, append_assoc, All, arith}
 use Rattle.isp_disk.specs.Moments.{Image}
 use Rattle.isp_disk.specs.declared.world.World.{Ghosts}
 use Rattle.isp_writes.specs.Causes.{FillsUp}

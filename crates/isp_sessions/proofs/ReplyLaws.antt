@@ -6,7 +6,6 @@ use Rattle.isp_connection.specs.Connections.{ConnectionState, Holds}
 use Rattle.isp_disk.specs.Outside.{PrintsPart}
 use Rattle.isp_tables.specs.Calls.{AreInside, Serves}
 use Rattle.isp_writes.specs.Causes.{FillsUp}
-use Rattle.isp_format.specs.Ranges.{Contents}
 use Rattle.isp_chained.specs.Courses.{Reaches}
 use Rattle.isp_image.specs.Databases.{Database}
 use Rattle.isp_chained.specs.Chained.{alone}

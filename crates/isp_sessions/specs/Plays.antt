@@ -1,5 +1,5 @@
 -- What a script that is run leaves of a file's pages, and what it prints.
-use Rattle.std.specs.Prelude.{◌≡◌, ℕ, ◌+◌, ◌<◌, ◌^◌, true, false, List, [], ◌++◌, length, Result, Ok, Err, IfErr, OnOk}
+use Rattle.std.specs.Prelude.{◌≡◌, ℕ, ◌+◌, ◌<◌, ◌^◌, true, false, List, ◌++◌, length, Result, IfErr, OnOk}
 use Rattle.std.specs.List.{flat_map}
 use Rattle.isp_disk.specs.Outside.{PrintsPart, Rose}
 use Rattle.isp_writes.specs.Causes.{FillsUp, IsFull}

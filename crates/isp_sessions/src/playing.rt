@@ -67,8 +67,7 @@ fn answer_setup<P: Pages>(alloc: Global, script: &Script, pages: P) -> (Result<(
     ensures later { IfErr result.0 NamesLaterOrLacks }
 {
     match Connection::open(alloc, pages, 0) {
-        Ok(connection) => {
-            let mut connection = connection;
+        Ok(mut connection) => {
             let end = answer_texts(alloc, &mut connection, script.setup.as_slice());
             (end, connection.into_pages())
         }
@@ -125,8 +124,7 @@ fn answer_session<P: Pages>(alloc: Global, pages: P, session: &Session) -> (Resu
     ensures later { IfErr result.0 NamesLaterOrLacks }
 {
     match Connection::open(alloc, pages, session.number) {
-        Ok(connection) => {
-            let mut connection = connection;
+        Ok(mut connection) => {
             let end = answer_all(alloc, &mut connection, session.texts.as_slice());
             (end, connection.into_pages())
         }

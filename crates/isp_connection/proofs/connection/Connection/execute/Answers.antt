@@ -1,6 +1,5 @@
-use Rattle.std.proofs.Common.{◌≡◌, sym, ◌∙◌, ap, subst}
+use Rattle.std.proofs.Common.{sym, ◌∙◌, ap, subst}
 use Rattle.std.proofs.lemmas.Result.{err_from_is_err_and}
-use Rattle.isp_image.specs.Databases.{Database}
 use Rattle.isp_page.specs.State.{FileShape}
 use Rattle.isp_page.specs.Steps.{IsNoDamageOrLacks}
 use Rattle.isp_plain.specs.declared.statement.Statement.{Statement}

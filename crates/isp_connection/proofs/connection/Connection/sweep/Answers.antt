@@ -1,4 +1,4 @@
-use Rattle.std.proofs.Common.{rules, refl, sym, ◌∙◌, ap}
+use Rattle.std.proofs.Common.{rules, refl, ◌∙◌, ap}
 use Rattle.isp_page.specs.State.{FileShape}
 use Rattle.isp_tables.proofs.RootLaws.{are_within}
 use Rattle.isp_trx.specs.Transactions.{TrxState}
