@@ -1,19 +1,19 @@
 //! Files, statements on them, and what each step of these is.
-ghost use Rattle.std.specs.Prelude.{◌≡◌, true, OnOk};
+ghost use Rattle.std.specs.Prelude.{◌≡◌, true, false, OnOk};
+ghost use Rattle.isp_tables.specs.Calls.{Serves};
 
 use crate::steps::Kind::{Event, Failing};
-use crate::steps::{Act, commit, goes};
+use crate::steps::{Act, commit, goes, open};
 use isp_exec::Context;
-use isp_page::{Fault, MemPages};
+use isp_page::{Fault, MemPages, Pages};
 use isp_serial::Place;
-use isp_tables::Tables;
-use isp_trx::Trx;
 use std::alloc::Global;
 use std::test::Fail;
 
-/// A file of so many pages, statements of which each is committed, and then statements of one transaction.
+/// A file, statements of which each is committed, and then statements of one transaction.
 struct Case {
-    pages: u32,
+    /// How many pages it has beyond 64.
+    more: u8,
     setup: &'static [Act],
     acts: &'static [Act],
 }
@@ -42,7 +42,7 @@ macro_rules! act {
 
 /// Five points of a table, on one leaf.
 static ON_ONE_LEAF: Case = Case {
-    pages: 128,
+    more: 64,
     setup: &[
         setup!(
             b"CREATE TABLE p (id BIGINT PRIMARY KEY, g GEOMETRY NOT NULL SRID 0, SPATIAL INDEX (g))",
@@ -94,7 +94,7 @@ static ON_ONE_LEAF: Case = Case {
 
 /// Eight rows so wide that they stand on two leaves, four on each.
 static ON_TWO_LEAVES: Case = Case {
-    pages: 128,
+    more: 64,
     setup: &[
         setup!(
             b"CREATE TABLE t (id BIGINT PRIMARY KEY, n BIGINT, a VARCHAR(500), b VARCHAR(500))",
@@ -135,7 +135,7 @@ static ON_TWO_LEAVES: Case = Case {
 
 /// Of 65 pages a table leaves the 48 that a change asks for, and the first change takes one.
 static FULL: Case = Case {
-    pages: 65,
+    more: 1,
     setup: &[setup!(
         b"CREATE TABLE p (id BIGINT PRIMARY KEY, n BIGINT)",
         [] => b"OK"
@@ -155,7 +155,7 @@ static FULL: Case = Case {
 
 /// Of 64 pages a table leaves one less.
 static NO_ROOM: Case = Case {
-    pages: 64,
+    more: 0,
     setup: &[
         setup!(b"CREATE TABLE p (id BIGINT PRIMARY KEY, n BIGINT)", [] => b"OK"),
         setup!(
@@ -166,14 +166,10 @@ static NO_ROOM: Case = Case {
     acts: &[act!(b"SELECT * FROM q", [] => b"ERR 1146 42S02 no such table")],
 };
 
-fn open(alloc: Global, pages: u32) -> Result<Context<MemPages>, Fault> {
-    let mut pages = MemPages::new(alloc, pages, 4, 0)?;
-    let tables = Tables::load(alloc, &mut pages)?;
-    let trx = Trx::begin(alloc, 1);
-    Ok(Context { pages, tables, trx })
-}
-
-fn set_up(alloc: Global, context: &mut Context<MemPages>, acts: &[Act]) -> Result<bool, Fault> {
+fn set_up<P: Pages>(alloc: Global, context: &mut Context<P>, acts: &[Act]) -> Result<bool, Fault>
+    requires serves { Serves P.Pages context.old.pages context.old.tables }
+    ensures serves { OnOk result (Serves P.Pages context.new.pages context.new.tables) }
+{
     for act in acts {
         if !goes(alloc, context, act)? {
             return Ok(false);
@@ -183,7 +179,10 @@ fn set_up(alloc: Global, context: &mut Context<MemPages>, acts: &[Act]) -> Resul
     Ok(true)
 }
 
-fn go(alloc: Global, context: &mut Context<MemPages>, acts: &[Act]) -> Result<bool, Fault> {
+fn go<P: Pages>(alloc: Global, context: &mut Context<P>, acts: &[Act]) -> Result<bool, Fault>
+    requires serves { Serves P.Pages context.old.pages context.old.tables }
+    ensures serves { OnOk result (Serves P.Pages context.new.pages context.new.tables) }
+{
     for act in acts {
         if !goes(alloc, context, act)? {
             return Ok(false);
@@ -192,11 +191,19 @@ fn go(alloc: Global, context: &mut Context<MemPages>, acts: &[Act]) -> Result<bo
     Ok(true)
 }
 
-fn is_so(alloc: Global, case: &Case) -> Result<bool, Fault> {
-    let mut context = open(alloc, case.pages)?;
+fn goes_on<P: Pages + Drop>(alloc: Global, pages: P, case: &Case) -> Result<bool, Fault>
+    requires usable { P.usable pages ≡ true }
+    requires none { (P.mini pages).is_begun ≡ false }
+{
+    let mut context = open(alloc, pages)?;
     let made = set_up(alloc, &mut context, case.setup)?;
     let gone = go(alloc, &mut context, case.acts)?;
     Ok(made && gone)
+}
+
+fn is_so(alloc: Global, case: &Case) -> Result<bool, Fault> {
+    let pages = MemPages::new(alloc, 64 + u32::from(case.more), 4, 0)?;
+    goes_on(alloc, pages, case)
 }
 
 #[test]

@@ -1,5 +1,6 @@
 //! A statement's text, stepped to its answer.
-ghost use Rattle.std.specs.Prelude.{◌≡◌, true, OnOk};
+ghost use Rattle.std.specs.Prelude.{◌≡◌, true, false, IfOk, OnOk};
+ghost use Rattle.isp_exec.specs.Standing.{IsFit};
 ghost use Rattle.isp_tables.specs.Calls.{Serves};
 
 use isp_exec::{Context, Step, Work};
@@ -7,6 +8,7 @@ use isp_page::{Fault, Pages};
 use isp_plain::Reply;
 use isp_plan::meaning_of;
 use isp_serial::Place;
+use isp_tables::Tables;
 use isp_text::print_reply;
 use isp_trx::Trx;
 use std::alloc::{AllocError, Global};
@@ -46,7 +48,11 @@ fn is_ready<P: Pages>(
     context: &mut Context<P>,
     work: &mut Work,
     answer: &[u8],
-) -> Result<bool, Fault> {
+) -> Result<bool, Fault>
+    requires serves { Serves P.Pages context.old.pages context.old.tables }
+    requires fit { IsFit (P.shape context.old.pages).pages context.old.tables work.old.progress }
+    ensures serves { OnOk result (Serves P.Pages context.new.pages context.new.tables) }
+{
     match work.step(context)? {
         Step::Ready(reply) => {
             let same = is_answer(alloc, &reply, answer)?;
@@ -62,7 +68,11 @@ fn goes_by<P: Pages>(
     context: &mut Context<P>,
     work: &mut Work,
     act: &Act,
-) -> Result<bool, Fault> {
+) -> Result<bool, Fault>
+    requires serves { Serves P.Pages context.old.pages context.old.tables }
+    requires fit { IsFit (P.shape context.old.pages).pages context.old.tables work.old.progress }
+    ensures serves { OnOk result (Serves P.Pages context.new.pages context.new.tables) }
+{
     for kind in act.steps {
         let step = work.step(context)?;
         if !is_kind(&step, *kind) {
@@ -90,15 +100,33 @@ pub(crate) fn goes<P: Pages>(
     alloc: Global,
     context: &mut Context<P>,
     act: &Act,
-) -> Result<bool, Fault> {
+) -> Result<bool, Fault>
+    requires serves { Serves P.Pages context.old.pages context.old.tables }
+    ensures serves { OnOk result (Serves P.Pages context.new.pages context.new.tables) }
+{
     let text = spelled(alloc, act.text)?;
     let statement = meaning_of(alloc, context.tables.defs(), act.place, &text)?;
     let mut work = Work::start(alloc, context, statement);
     goes_by(alloc, context, &mut work, act)
 }
 
+/// The file's pages with its definitions, and a transaction in which nothing is done.
+pub(crate) fn open<P: Pages + Drop>(alloc: Global, pages: P) -> Result<Context<P>, Fault>
+    requires usable { P.usable pages ≡ true }
+    requires none { (P.mini pages).is_begun ≡ false }
+    ensures serves { IfOk result (λ c. Serves P.Pages c.pages c.tables) }
+{
+    let mut pages = pages;
+    let tables = Tables::load(alloc, &mut pages)?;
+    let trx = Trx::begin(alloc, 1);
+    Ok(Context { pages, tables, trx })
+}
+
 /// Commits what the session has changed, and begins anew.
-pub(crate) fn commit<P: Pages>(alloc: Global, context: &mut Context<P>) -> Result<(), Fault> {
+pub(crate) fn commit<P: Pages>(alloc: Global, context: &mut Context<P>) -> Result<(), Fault>
+    requires serves { Serves P.Pages context.old.pages context.old.tables }
+    ensures serves { OnOk result (Serves P.Pages context.new.pages context.new.tables) }
+{
     context.trx.commit(&mut context.pages)?;
     context.trx = Trx::begin(alloc, 1);
     Ok(())
