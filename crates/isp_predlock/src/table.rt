@@ -89,10 +89,11 @@ impl PredLocks {
     pub fn is_on(&self, id: SearchId, page: PageNo) -> bool
         ensures { result ≡ is_on self.now.searches id.0 page.0 }
     {
-        self.attached.contains(Attached {
+        let pair = Attached {
             search: id.0,
             page: page.0,
-        })
+        };
+        self.attached.contains(&pair)
     }
 
     /// The numbers of the searches, in order of beginning.
