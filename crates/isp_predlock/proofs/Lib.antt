@@ -1,1 +1,4 @@
-
+pub mod MemberLaws
+pub mod InsideLaws
+pub mod SlabLaws
+pub mod CallLaws

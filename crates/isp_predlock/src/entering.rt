@@ -28,9 +28,8 @@ impl PredLocks {
         alloc: Global,
         grown: &[Growing],
     ) -> Result<Vec<Percolation>, AllocError>
-        ensures exact { IfOk result (λ list. list.items ≡ percolating_on self.now.searches grown.now) }
+        ensures percolating { IfOk result (λ list. list.items ≡ percolating_on self.now.searches grown.now) }
         ensures there { IfOk result (λ list. are_there self.now.searches list.items ≡ true) }
-        ensures named { AreNamed self.now.searches }
     {
         let mut list = Vec::new(alloc);
         for growing in grown {

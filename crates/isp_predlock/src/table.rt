@@ -2,7 +2,7 @@
 //!
 //! To find a search, to ask whether it is on a page and to attach it to one take a look-up each, however many there are.
 
-ghost use Rattle.std.specs.Prelude.{◌≡◌, ◌+◌, ◌<◌, ◌≤◌, [], true, false, map, IfOk, OnOk, OnErr};
+ghost use Rattle.std.specs.Prelude.{◌≡◌, ◌+◌, ◌<◌, ◌≤◌, [], true, false, length, map, IfOk, OnOk, OnErr};
 ghost use Rattle.isp_events.specs.Lines.{pages_rising};
 ghost use Rattle.isp_events.specs.State.{session_count};
 ghost use Rattle.isp_predlock.specs.Tables.{id_of, is_on, is_there, page_number, pages_of, sought_of, with_begun, with_page_at, without_session, AreNamed};
@@ -78,6 +78,14 @@ impl PredLocks {
         Ok(SearchId(id))
     }
 
+    /// How many searches there are.
+    pub fn count(&self) -> usize
+        ensures count { result ≡ length self.now.searches }
+        ensures named { AreNamed self.now.searches }
+    {
+        self.ids().len()
+    }
+
     /// The search of that number, as it began.
     pub fn sought(&self, id: SearchId) -> Option<Sought>
         ensures { result ≡ sought_of self.now.searches id.0 }
@@ -112,26 +120,16 @@ impl PredLocks {
         ensures spare { self.old.spare ≤ self.new.spare + 1 }
         ensures again { is_on self.old.searches id.0 page.0 ≡ true → self.new ≡ self.old }
     {
-        if !self.is_on(id, page) {
-            self.attach_anew(id, page);
-        }
-    }
-
-    // The same of a page that the search isn't on.
-    fn attach_anew(&mut self, id: SearchId, page: PageNo)
-        requires there { is_there self.old.searches id.0 ≡ true }
-        requires new { is_on self.old.searches id.0 page.0 ≡ false }
-        requires room { 0 < self.old.spare }
-        ensures attached { self.new.searches ≡ with_page_at self.old.searches id.0 page.0 }
-        ensures spare { self.old.spare ≤ self.new.spare + 1 }
-    {
         let pair = Attached {
             search: id.0,
             page: page.0,
         };
+        if self.attached.contains(&pair) {
+            return;
+        }
         match self.attached.insert(pair) {
             Ok(_) => {}
-            // There was room for it.
+            // There is room for it.
             Err(_) => unreachable!(),
         }
     }

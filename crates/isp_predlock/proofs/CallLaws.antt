@@ -1,0 +1,200 @@
+-- What the calls say of searches by their numbers, as said of the searches themselves.
+use Rattle.std.proofs.Common.{◌≡◌, ℕ, ◌+◌, ◌==◌, Bool, true, false, cond, List, [], ◌∷◌, ◌++◌, map, filter, filter_map, find, option_map, Option, Some, None, inl, inr, refl, ap, sym, ◌∙◌, subst, arith, eqb-true, eq-eqb, ◌&&◌, ◌||◌}
+use Rattle.std.specs.List.{list_any}
+use Rattle.std.proofs.lemmas.Bool.Decides.{nat_tests}
+use Rattle.std.proofs.lemmas.List.Folds.{list_any-append}
+use Rattle.isp_base.specs.Lists.{Has}
+use Rattle.isp_mbr.specs.Corners.{Corners}
+use Rattle.isp_mbr.specs.Predicates.{may_hold, satisfies}
+use Rattle.isp_forest.specs.Steps.{is_among}
+use Rattle.isp_laws.proofs.ListLaws.{Has-map, Has-map_of, Source}
+use Rattle.isp_searches.proofs.SeesLaws.{among_has, has_among}
+use Rattle.isp_predlock.specs.declared.entries.On.{On}
+use Rattle.isp_predlock.specs.declared.entries.Percolation.{Percolation}
+use Rattle.isp_predlock.specs.declared.entries.Placing.{Placing}
+use Rattle.isp_predlock.specs.declared.entries.SearchId.{SearchId}
+use Rattle.isp_predlock.specs.declared.entries.Sought.{Sought}
+use Rattle.isp_predlock.specs.Tables.{AreNamed, HeldSearch, at_id, attached_by, copied_by, copied_on, has_id, id_of, is_copied, is_there, of_found, on_of, passes_at, passes_found, told, with_page, with_page_at}
+use Rattle.isp_predlock.specs.Testing.{blocking, is_tested_by, tested}
+use Rattle.isp_predlock.proofs.MemberLaws.{filter_map_members, filter_map_of_map, map_members, map_still, map_twice}
+
+-- ---- the search of a number
+
+-- what a search by number finds is a search of that number, and among these
+pub record IsFirst (searches : List HeldSearch) (id : ℕ) (x : HeldSearch) : Type 0 where
+  pub has : Has searches x
+  pub number : x.id ≡ id
+
+first_step : (b : Bool) (z x : HeldSearch) (zs : List HeldSearch) (id : ℕ) → (z.id == id) ≡ b → (find (has_id id) zs ≡ Some x → IsFirst zs id x)
+    → cond b (Some z) (find (has_id id) zs) ≡ Some x → IsFirst (z ∷ zs) id x
+first_step true z x zs id e f h =
+    let same : z ≡ x = cc in
+    record { has = inl same; number = ap (λ (y : HeldSearch). y.id) (sym same) ∙ eqb-true z.id id e }
+first_step false z x zs id e f h = let i : IsFirst zs id x = f h in record { has = inr i.has; number = i.number }
+
+pub first : (searches : List HeldSearch) (id : ℕ) (x : HeldSearch) → find (has_id id) searches ≡ Some x → IsFirst searches id x
+first [] id x h = let no : ⊥ = cc in absurd no
+first (z ∷ zs) id x h = first_step (z.id == id) z x zs id refl (first zs id x) h
+
+found_step : (b : Bool) (z x : HeldSearch) (zs : List HeldSearch) → (z.id == x.id) ≡ b → (z ≡ x → b ≡ true)
+    → (Has zs x → (y : HeldSearch) × (find (has_id x.id) zs ≡ Some y)) → Has (z ∷ zs) x → (y : HeldSearch) × (cond b (Some z) (find (has_id x.id) zs) ≡ Some y)
+found_step true z x zs e same f h = (z, refl)
+found_step false z x zs e same f (inl is) = let no : false ≡ true = same is in let never : ⊥ = cc in absurd never
+found_step false z x zs e same f (inr h) = f h
+
+some_found : (searches : List HeldSearch) (x : HeldSearch) → Has searches x → (y : HeldSearch) × (find (has_id x.id) searches ≡ Some y)
+some_found [] x h = absurd h
+some_found (z ∷ zs) x h = found_step (z.id == x.id) z x zs refl (λ same. eq-eqb z.id x.id (ap (λ (y : HeldSearch). y.id) same)) (some_found zs x) h
+
+-- where searches are named one by one, it finds each of them
+pub found_named : (searches : List HeldSearch) → AreNamed searches → (x : HeldSearch) → Has searches x → find (has_id x.id) searches ≡ Some x
+found_named searches named x h =
+    let some : (y : HeldSearch) × (find (has_id x.id) searches ≡ Some y) = some_found searches x h in
+    let i : IsFirst searches x.id some.0 = first searches x.id some.0 some.1 in
+    some.1 ∙ ap Some (named some.0 x i.has h i.number)
+
+pub by_number : {A : Type 0} (f : HeldSearch → Option A) (searches : List HeldSearch) → AreNamed searches
+    → filter_map (at_id searches f) (map id_of searches) ≡ filter_map f searches
+by_number f searches named =
+    filter_map_of_map (at_id searches f) id_of searches
+    ∙ filter_map_members (λ x. at_id searches f x.id) f searches (λ x h. ap (of_found f) (found_named searches named x h))
+
+pub passes_number : (test : HeldSearch → Bool) (searches : List HeldSearch) → AreNamed searches → (x : HeldSearch) (id : ℕ) → Has searches x → x.id ≡ id
+    → passes_at searches test id ≡ test x
+passes_number test searches named x id h e = ap (passes_at searches test) (sym e) ∙ ap (passes_found test) (found_named searches named x h)
+
+there_by : (searches : List HeldSearch) (id : ℕ) (test : HeldSearch → Bool) (o : Option HeldSearch) → find (has_id id) searches ≡ o → passes_found test o ≡ true → is_there searches id ≡ true
+there_by searches id test None at h = let no : ⊥ = cc in absurd no
+there_by searches id test (Some x) at h =
+    let i : IsFirst searches id x = first searches id x at in
+    has_among (map id_of searches) id (subst (λ (k : ℕ). Has (map id_of searches) k) i.number (Has-map_of id_of searches x i.has))
+
+pub passing_there : (searches : List HeldSearch) (id : ℕ) (test : HeldSearch → Bool) → passes_at searches test id ≡ true → is_there searches id ≡ true
+passing_there searches id test h = there_by searches id test (find (has_id id) searches) refl h
+
+-- ---- what is told of it
+
+told_step : (searches : List HeldSearch) (id : SearchId) (s : Sought) (o : Option HeldSearch) → find (has_id id.0) searches ≡ o → Some s ≡ option_map (λ (x : HeldSearch). x.sought) o
+    → Some (record { search = id; session = s.session; predicate = s.predicate }) ≡ of_found told o
+told_step searches id s None at h = let no : ⊥ = cc in absurd no
+told_step searches id s (Some x) at h =
+    let is : s ≡ x.sought = cc in
+    let i : IsFirst searches id.0 x = first searches id.0 x at in
+    ap (λ (y : Sought). Some (record { search = id; session = y.session; predicate = y.predicate })) is
+    ∙ ap (λ (k : ℕ). Some (record { search = record { 0 = k }; session = (x.sought).session; predicate = (x.sought).predicate })) (sym i.number)
+
+pub told_at : (searches : List HeldSearch) (id : SearchId) (s : Sought) → Some s ≡ option_map (λ (x : HeldSearch). x.sought) (find (has_id id.0) searches)
+    → Some (record { search = id; session = s.session; predicate = s.predicate }) ≡ at_id searches told id.0
+told_at searches id s h = told_step searches id s (find (has_id id.0) searches) refl h
+
+blocking_by : (b c : Bool) (x : HeldSearch) (on : On) (box : Corners) → satisfies on.predicate box ≡ c → Some on ≡ cond b (Some (on_of x)) None
+    → cond c (Some on) None ≡ cond (b && satisfies (x.sought).predicate box) (Some (on_of x)) None
+blocking_by false c x on box e h = let no : ⊥ = cc in absurd no
+blocking_by true c x on box e h =
+    let is : on ≡ on_of x = cc in
+    ap (λ (d : Bool). cond d (Some on) None) (sym e) ∙ ap (λ (o : On). cond (satisfies o.predicate box) (Some o) None) is
+
+blocking_step : (placing : Placing) (more : List Percolation) (c : Bool) (o : Option HeldSearch) (on : On) → satisfies on.predicate placing.b ≡ c
+    → Some on ≡ of_found (tested placing more) o → cond c (Some on) None ≡ of_found (blocking placing more) o
+blocking_step placing more c None on e h = let no : ⊥ = cc in absurd no
+blocking_step placing more c (Some x) on e h = blocking_by (is_tested_by placing more x) c x on placing.b e h
+
+pub blocking_at : (placing : Placing) (more : List Percolation) (searches : List HeldSearch) (id : ℕ) (on : On) (c : Bool) → satisfies on.predicate placing.b ≡ c
+    → Some on ≡ at_id searches (tested placing more) id → cond c (Some on) None ≡ at_id searches (blocking placing more) id
+blocking_at placing more searches id on c e h = blocking_step placing more c (find (has_id id) searches) on e h
+
+-- ---- copies
+
+copied_step : (c b : Bool) (x y : HeldSearch) → (c ≡ true → b ≡ true) → cond c y x ≡ cond c (cond b y x) x
+copied_step true true x y h = refl
+copied_step true false x y h = let no : false ≡ true = h refl in let never : ⊥ = cc in absurd never
+copied_step false b x y h = refl
+
+uncopied_step : (c b : Bool) (x y : HeldSearch) → (c ≡ true → b ≡ false) → cond c (cond b y x) x ≡ x
+uncopied_step true true x y h = let no : true ≡ false = h refl in let never : ⊥ = cc in absurd never
+uncopied_step true false x y h = refl
+uncopied_step false b x y h = refl
+
+module _ (searches : List HeldSearch) (named : AreNamed searches) (id p q : ℕ) (box : Corners) where
+  pub copied_one : passes_at searches (is_copied p box) id ≡ true → with_page_at searches id q ≡ map (copied_by id p q box) searches
+  copied_one h =
+      map_members (attached_by id q) (copied_by id p q box) searches (λ x has. copied_step (x.id == id) (is_copied p box x) x (with_page q x)
+      (λ e. sym (passes_number (is_copied p box) searches named x id has (eqb-true x.id id e)) ∙ h))
+
+  pub copied_none : passes_at searches (is_copied p box) id ≡ false → searches ≡ map (copied_by id p q box) searches
+  copied_none h =
+      sym (map_still (copied_by id p q box) searches (λ x has. uncopied_step (x.id == id) (is_copied p box x) x (with_page q x)
+      (λ e. sym (passes_number (is_copied p box) searches named x id has (eqb-true x.id id e)) ∙ h)))
+
+-- ---- copies one after another
+
+-- the searches of these numbers are copied
+abbrev pub copied_among : List ℕ → ℕ → ℕ → Corners → HeldSearch → HeldSearch
+copied_among ids p q box x = cond (is_among ids x.id) (copied_on p q box x) x
+
+on_it : (on : List ℕ) (q : ℕ) (b : Bool) → is_among on q ≡ b → is_among (cond b on (on ++ q ∷ [])) q ≡ true
+on_it on q true e = e
+on_it on q false e = has_among (on ++ q ∷ []) q (last on)
+  where
+    last : (xs : List ℕ) → Has (xs ++ q ∷ []) q
+    last [] = inl refl
+    last (x ∷ xs) = inr (last xs)
+
+page_twice : (q : ℕ) (x : HeldSearch) → with_page q (with_page q x) ≡ with_page q x
+page_twice q x =
+    let on : List ℕ = cond (is_among x.on q) x.on (x.on ++ q ∷ []) in
+    ap (λ (b : Bool). record { id = x.id; sought = x.sought; on = cond b on (on ++ q ∷ []) }) (on_it x.on q (is_among x.on q) refl)
+
+either : (b : Bool) (x y : HeldSearch) → x ≡ y → cond b x y ≡ y
+either true x y e = e
+either false x y e = refl
+
+copied_twice : (p q : ℕ) (box : Corners) (x : HeldSearch) → copied_on p q box (copied_on p q box x) ≡ copied_on p q box x
+copied_twice p q box x = by (is_copied p box x) refl
+  where
+    by : (b : Bool) → is_copied p box x ≡ b
+        → cond (is_copied p box (cond b (with_page q x) x)) (with_page q (cond b (with_page q x) x)) (cond b (with_page q x) x) ≡ cond b (with_page q x) x
+    by true e = either (is_copied p box (with_page q x)) (with_page q (with_page q x)) (with_page q x) (page_twice q x)
+    by false e = ap (λ (c : Bool). cond c (with_page q x) x) e
+
+module _ (p q : ℕ) (box : Corners) where
+  same_id : (x : HeldSearch) (b : Bool) → (cond b (with_page q x) x).id ≡ x.id
+  same_id x true = refl
+  same_id x false = refl
+
+  then_one : (c d : Bool) (x : HeldSearch) → cond d (copied_on p q box (cond c (copied_on p q box x) x)) (cond c (copied_on p q box x) x) ≡ cond (c || (d || false)) (copied_on p q box x) x
+  then_one true true x = copied_twice p q box x
+  then_one true false x = refl
+  then_one false true x = refl
+  then_one false false x = refl
+
+  among_id : (ids : List ℕ) (x : HeldSearch) (c : Bool) → (cond c (copied_on p q box x) x).id ≡ x.id
+  among_id ids x true = same_id x (is_copied p box x)
+  among_id ids x false = refl
+
+  -- one more is
+  pub copied_more : (ids : List ℕ) (id : ℕ) (searches : List HeldSearch)
+      → map (copied_by id p q box) (map (copied_among ids p q box) searches) ≡ map (copied_among (ids ++ id ∷ []) p q box) searches
+  copied_more ids id searches =
+      map_twice (copied_by id p q box) (copied_among ids p q box) searches
+      ∙ map_members (λ x. copied_by id p q box (copied_among ids p q box x)) (copied_among (ids ++ id ∷ []) p q box) searches (λ x has.
+        (let y : HeldSearch = copied_among ids p q box x in
+        ap (λ (k : ℕ). cond (k == id) (copied_on p q box y) y) (among_id ids x (is_among ids x.id))
+        ∙ ap (λ (d : Bool). cond d (copied_on p q box y) y) (turned x.id id)
+        ∙ then_one (is_among ids x.id) (id == x.id) x
+        ∙ ap (λ (b : Bool). cond b (copied_on p q box x) x) (sym (list_any-append (λ k. k == x.id) ids (id ∷ [])))))
+    where
+      turned : (a b : ℕ) → (a == b) ≡ (b == a)
+      turned a b = grind (arith, nat_tests)
+
+  -- and once all are, each search is
+  pub copied_all : (searches : List HeldSearch) → map (copied_among (map id_of searches) p q box) searches ≡ map (copied_on p q box) searches
+  copied_all searches =
+      map_members (copied_among (map id_of searches) p q box) (copied_on p q box) searches
+      (λ x has. ap (λ (b : Bool). cond b (copied_on p q box x) x) (has_among (map id_of searches) x.id (Has-map_of id_of searches x has)))
+
+  pub copied_nobody : (searches : List HeldSearch) → searches ≡ map (copied_among [] p q box) searches
+  copied_nobody searches = sym (map_still (copied_among [] p q box) searches (λ x has. refl))
+
+  pub copied_ids : (ids : List ℕ) (searches : List HeldSearch) → map id_of (map (copied_among ids p q box) searches) ≡ map id_of searches
+  copied_ids ids searches = map_twice id_of (copied_among ids p q box) searches ∙ map_members (λ x. (copied_among ids p q box x).id) id_of searches (λ x has. among_id ids x (is_among ids x.id))

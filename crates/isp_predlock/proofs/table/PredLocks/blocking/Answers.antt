@@ -1,0 +1,9 @@
+use Rattle.std.proofs.Common.{rules}
+use Rattle.isp_predlock.proofs.CallLaws.{blocking_at}
+use Rattle.isp_predlock.proofs.table.PredLocks.blocking.Goals as goal
+
+pub returns-then-satisfies : goal.returns-then-satisfies
+returns-then-satisfies c = blocking_at c.args.placing.now c.args.more.now c.args.self.now.searches c.args.id.0 _ _ (search rules) (search rules)
+
+pub returns-else-satisfies : goal.returns-else-satisfies
+returns-else-satisfies c = blocking_at c.args.placing.now c.args.more.now c.args.self.now.searches c.args.id.0 _ _ (search rules) (search rules)

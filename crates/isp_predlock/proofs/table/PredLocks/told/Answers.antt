@@ -1,0 +1,5 @@
+use Rattle.isp_predlock.proofs.CallLaws.{told_at}
+use Rattle.isp_predlock.proofs.table.PredLocks.told.Goals as goal
+
+pub returns : goal.returns
+returns c = told_at c.args.self.now.searches c.args.id _ (search rules)
