@@ -1,20 +1,24 @@
 -- What the calls say of searches by their numbers, as said of the searches themselves.
-use Rattle.std.proofs.Common.{◌≡◌, ℕ, ◌+◌, ◌==◌, Bool, true, false, cond, List, [], ◌∷◌, ◌++◌, map, filter, filter_map, find, option_map, Option, Some, None, inl, inr, refl, ap, sym, ◌∙◌, subst, arith, eqb-true, eq-eqb, ◌&&◌, ◌||◌}
-use Rattle.std.specs.List.{list_any}
+use Rattle.std.proofs.Common.{◌≡◌, ℕ, ◌+◌, ◌==◌, Bool, true, false, cond, List, [], ◌∷◌, ◌++◌, map, drop, filter_map, find, option_map, Option, Some, None, inl, inr, refl, ap, sym, ◌∙◌, subst, arith, eqb-true, eq-eqb, ◌&&◌, ◌||◌}
+use Rattle.std.specs.List.{cons_option, list_all, list_any}
+use Rattle.std.proofs.lemmas.Bool.{and_parts}
 use Rattle.std.proofs.lemmas.Bool.Decides.{nat_tests}
-use Rattle.std.proofs.lemmas.List.Folds.{list_any-append}
+use Rattle.std.proofs.lemmas.List.Folds.{list_all-append, list_any-append}
 use Rattle.isp_base.specs.Lists.{Has}
 use Rattle.isp_mbr.specs.Corners.{Corners}
 use Rattle.isp_mbr.specs.Predicates.{may_hold, satisfies}
 use Rattle.isp_forest.specs.Steps.{is_among}
 use Rattle.isp_laws.proofs.ListLaws.{Has-map, Has-map_of, Source}
 use Rattle.isp_searches.proofs.SeesLaws.{among_has, has_among}
+use Rattle.isp_base.specs.declared.page_no.PageNo.{PageNo}
+use Rattle.isp_predlock.specs.declared.entries.Growing.{Growing}
 use Rattle.isp_predlock.specs.declared.entries.On.{On}
 use Rattle.isp_predlock.specs.declared.entries.Percolation.{Percolation}
 use Rattle.isp_predlock.specs.declared.entries.Placing.{Placing}
 use Rattle.isp_predlock.specs.declared.entries.SearchId.{SearchId}
 use Rattle.isp_predlock.specs.declared.entries.Sought.{Sought}
-use Rattle.isp_predlock.specs.Tables.{AreNamed, HeldSearch, at_id, attached_by, copied_by, copied_on, has_id, id_of, is_copied, is_there, of_found, on_of, passes_at, passes_found, told, with_page, with_page_at}
+use Rattle.isp_predlock.specs.Entering.{entered, goes_on, percolating_after}
+use Rattle.isp_predlock.specs.Tables.{AreNamed, HeldSearch, are_there, at_id, attached_by, copied_by, copied_on, has_id, id_of, id_told, is_copied, is_there, of_found, on_of, passes_at, passes_found, told, with_page, with_page_at, with_pages}
 use Rattle.isp_predlock.specs.Testing.{blocking, is_tested_by, tested}
 use Rattle.isp_predlock.proofs.MemberLaws.{filter_map_members, filter_map_of_map, map_members, map_still, map_twice}
 
@@ -102,6 +106,74 @@ blocking_step placing more c (Some x) on e h = blocking_by (is_tested_by placing
 pub blocking_at : (placing : Placing) (more : List Percolation) (searches : List HeldSearch) (id : ℕ) (on : On) (c : Bool) → satisfies on.predicate placing.b ≡ c
     → Some on ≡ at_id searches (tested placing more) id → cond c (Some on) None ≡ at_id searches (blocking placing more) id
 blocking_at placing more searches id on c e h = blocking_step placing more c (find (has_id id) searches) on e h
+
+-- ---- searches are attached to pages
+
+attached_number : (id q : ℕ) (x : HeldSearch) (b : Bool) → (cond b (with_page q x) x).id ≡ x.id
+attached_number id q x true = refl
+attached_number id q x false = refl
+
+pub attached_ids : (searches : List HeldSearch) (id q : ℕ) → map id_of (with_page_at searches id q) ≡ map id_of searches
+attached_ids searches id q =
+    map_twice id_of (attached_by id q) searches ∙ map_members (λ x. (attached_by id q x).id) id_of searches (λ x has. attached_number id q x (has_id id x))
+
+-- the next of a list is attached
+module _ (list : List Percolation) (i : ℕ) (f : Percolation) (next : drop i list ≡ f ∷ drop (i + 1) list) (searches after : List HeldSearch)
+    (is : after ≡ with_page_at searches f.search.0 f.page.0) where
+  pub attached_next : (all : List HeldSearch) → map (with_pages (drop i list)) searches ≡ all → map (with_pages (drop (i + 1) list)) after ≡ all
+  attached_next all e =
+      let rest : List Percolation = drop (i + 1) list in
+      ap (λ (l : List HeldSearch). map (with_pages rest) l) is ∙ map_twice (with_pages rest) (attached_by f.search.0 f.page.0) searches
+      ∙ ap (λ (l : List Percolation). map (with_pages l) searches) (sym next) ∙ e
+
+  pub there_here : are_there searches (drop i list) ≡ true → is_there searches f.search.0 ≡ true
+  there_here h =
+      (and_parts (is_there searches f.search.0) (are_there searches (drop (i + 1) list)) (ap (are_there searches) (sym next) ∙ h)).0
+
+  pub there_next : are_there searches (drop i list) ≡ true → are_there after (drop (i + 1) list) ≡ true
+  there_next h =
+      let rest : List Percolation = drop (i + 1) list in
+      ap (λ (ids : List ℕ). list_all (λ (found : Percolation). is_among ids found.search.0) rest) (ap (λ (l : List HeldSearch). map id_of l) is ∙ attached_ids searches f.search.0 f.page.0)
+      ∙ (and_parts (is_there searches f.search.0) (are_there searches rest) (ap (are_there searches) (sym next) ∙ h)).1
+
+pub attached_last : (list : List Percolation) (searches : List HeldSearch) → list ≡ [] → map (with_pages list) searches ≡ searches
+attached_last list searches e = ap (λ (l : List Percolation). map (with_pages l) searches) e ∙ map_still (with_pages []) searches (λ x has. refl)
+
+-- ---- who percolates is there
+
+there_option : (searches : List HeldSearch) (o : Option Percolation) (list : List Percolation) → ((found : Percolation) → o ≡ Some found → is_there searches found.search.0 ≡ true)
+    → are_there searches list ≡ true → are_there searches (cons_option o list) ≡ true
+there_option searches None list h e = e
+there_option searches (Some found) list h e = ap (λ (b : Bool). b && are_there searches list) (h found refl) ∙ e
+
+entered_number : (b : Bool) (x : HeldSearch) (page : PageNo) (found : Percolation)
+    → cond b (Some (record { search = id_told x; session = (x.sought).session; page = page })) None ≡ Some found → x.id ≡ found.search.0
+entered_number true x page found e = ap {B = ℕ} (number x.id) e
+  where
+    number : ℕ → Option Percolation → ℕ
+    number k None = k
+    number k (Some f) = f.search.0
+entered_number false x page found e = let never : ⊥ = cc in absurd never
+
+entered_there : (searches some : List HeldSearch) (list : List Percolation) (g : Growing) → ((x : HeldSearch) → Has some x → Has searches x)
+    → are_there searches (filter_map (entered list g) some) ≡ true
+entered_there searches [] list g h = refl
+entered_there searches (x ∷ xs) list g h =
+    there_option searches (entered list g x) (filter_map (entered list g) xs)
+    (λ found e. ap (is_there searches) (sym (entered_number (goes_on list g x) x g.child found e)) ∙ has_among (map id_of searches) x.id (Has-map_of id_of searches x (h x (inl refl))))
+    (entered_there searches xs list g (λ y k. h y (inr k)))
+
+-- the next child's
+module _ (searches : List HeldSearch) (grown : List Growing) (i : ℕ) (g : Growing) (next : drop i grown ≡ g ∷ drop (i + 1) grown) (list after : List Percolation)
+    (is : after ≡ list ++ filter_map (entered list g) searches) where
+  pub percolating_next : (all : List Percolation) → percolating_after searches (drop i grown) list ≡ all → percolating_after searches (drop (i + 1) grown) after ≡ all
+  percolating_next all e =
+      ap (percolating_after searches (drop (i + 1) grown)) is ∙ ap (λ (l : List Growing). percolating_after searches l list) (sym next) ∙ e
+
+  pub percolating_there : are_there searches list ≡ true → are_there searches after ≡ true
+  percolating_there h =
+      ap (are_there searches) is ∙ list_all-append (λ (found : Percolation). is_there searches found.search.0) list (filter_map (entered list g) searches)
+      ∙ ap (λ (b : Bool). b && are_there searches (filter_map (entered list g) searches)) h ∙ entered_there searches searches list g (λ x k. k)
 
 -- ---- copies
 

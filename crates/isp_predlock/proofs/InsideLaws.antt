@@ -1,5 +1,5 @@
 -- What is seen of a table, by what it keeps: its searches by their numbers, and the table after each change of it.
-use Rattle.std.proofs.Common.{◌≡◌, ◌≢◌, ℕ, ◌==◌, Bool, true, false, not, cond, is_some, List, [], ◌∷◌, ◌++◌, append-nil, map, filter, filter_map, find, option_map, Option, Some, None, inl, inr, refl, ap, sym, ◌∙◌, subst, arith, eqb-true, ◌&&◌, ◌||◌}
+use Rattle.std.proofs.Common.{◌≡◌, ◌≢◌, ℕ, ◌==◌, Bool, true, false, not, cond, is_some, List, [], ◌∷◌, ◌++◌, append-nil, map, filter, filter_map, find, option_map, Option, Some, None, inl, inr, refl, ap, sym, ◌∙◌, subst, arith, eqb-true, eq-eqb, ◌&&◌, ◌||◌}
 use Rattle.std.specs.List.{cons_option, list_any}
 use Rattle.std.proofs.lemmas.List.Elements.{filter_map-append}
 use Rattle.std.proofs.lemmas.Bool.Decides.{nat_tests}
@@ -158,6 +158,36 @@ module _ (old new : Slab Sought) (pairs : List Attached) (order : List ℕ) (id 
         (filter_map_members (held_at new pairs) (held_at old pairs) order (λ j h. ap (option_map (held_as pairs j)) (others j (other_than there was j h))))
       ∙ ap (λ (o : Option Sought). filter_map (held_at old pairs) order ++ cons_option (option_map (held_as pairs id) o) []) now
       ∙ ap (λ (on : List ℕ). filter_map (held_at old pairs) order ++ record { id = id; sought = sought; on = on } ∷ []) (none_attached old pairs id attached was)
+
+  begun_now : get new id ≡ Some sought → is_some (get new id) ≡ true
+  begun_now now = ap (λ (o : Option Sought). is_some o) now
+
+  begun_still : get old id ≡ None → ((j : ℕ) → j ≢ id → get new j ≡ get old j) → (j : ℕ) → is_some (get old j) ≡ true → is_some (get new j) ≡ true
+  begun_still was others j there =
+      ap (λ (o : Option Sought). is_some o) (others j (λ e.
+      (let absent : Option Sought = None in
+      let none_there : is_some absent ≡ true = ap (λ (o : Option Sought). is_some o) (sym (ap (get old) e ∙ was)) ∙ there in
+      let never : ⊥ = cc in never))) ∙ there
+
+  pub begun_there : AllThere old order → get old id ≡ None → get new id ≡ Some sought → ((j : ℕ) → j ≢ id → get new j ≡ get old j) → AllThere new (order ++ id ∷ [])
+  begun_there there was now others j h = elim (Has-append order (id ∷ []) j h) [
+    | inl before ↦ begun_still was others j (there j before)
+    | inr last ↦ elim last [ inl same ↦ subst (λ (k : ℕ). is_some (get new k) ≡ true) same (begun_now now) | inr none ↦ absurd none ]
+  ]
+
+  pub begun_listed : ((j : ℕ) → is_some (get old j) ≡ true → Has order j) → ((j : ℕ) → j ≢ id → get new j ≡ get old j)
+      → (j : ℕ) → is_some (get new j) ≡ true → Has (order ++ id ∷ []) j
+  begun_listed listed others j h = by (j == id) refl
+    where
+      by : (b : Bool) → (j == id) ≡ b → Has (order ++ id ∷ []) j
+      by true e = Has-append_right order (id ∷ []) j (inl (sym (eqb-true j id e)))
+      by false e =
+          let other : j ≢ id = λ same. (let is : (j == id) ≡ true = eq-eqb j id same in let never : ⊥ = cc in never) in
+          Has-append_left order (id ∷ []) j (listed j (ap (λ (o : Option Sought). is_some o) (sym (others j other)) ∙ h))
+
+  pub begun_attached : get old id ≡ None → ((j : ℕ) → j ≢ id → get new j ≡ get old j) → ((a : Attached) → Has pairs a → is_some (get old a.search) ≡ true)
+      → (a : Attached) → Has pairs a → is_some (get new a.search) ≡ true
+  begun_attached was others attached a h = begun_still was others a.search (attached a h)
 
 -- ---- a search is attached to a page
 

@@ -2,9 +2,10 @@
 //!
 //! To find a search, to ask whether it is on a page and to attach it to one take a look-up each, however many there are.
 
-ghost use Rattle.std.specs.Prelude.{◌≡◌, ◌+◌, ◌<◌, ◌≤◌, [], true, false, length, map, IfOk, OnOk, OnErr};
+ghost use Rattle.std.specs.Prelude.{◌≡◌, ◌+◌, ◌<◌, ◌≤◌, [], true, false, filter_map, length, map, IfOk, OnOk, OnErr};
 ghost use Rattle.isp_events.specs.Lines.{pages_rising};
 ghost use Rattle.isp_events.specs.State.{session_count};
+ghost use Rattle.isp_predlock.specs.Inside.{page_for};
 ghost use Rattle.isp_predlock.specs.Tables.{id_of, is_on, is_there, page_number, pages_of, sought_of, with_begun, with_page_at, without_session, AreNamed};
 
 use crate::releasing::{drop_searches, keep_attached, keep_order};
@@ -139,12 +140,7 @@ impl PredLocks {
         ensures { IfOk result (λ pages. map page_number pages.items
             ≡ pages_rising (pages_of self.now.searches id.0)) }
     {
-        let mut pages = BTreeSet::new(alloc);
-        for pair in &self.attached {
-            if pair.search == id.0 {
-                pages.insert(pair.page)?;
-            }
-        }
+        let pages = pages_rising(alloc, self.attached.as_slice(), id)?;
         pages.iter().map(|page| PageNo(*page)).collect(alloc)
     }
 
@@ -157,4 +153,21 @@ impl PredLocks {
         keep_order(&mut self.order, &self.searches);
         keep_attached(&mut self.attached, &self.searches);
     }
+}
+
+// The pages of the search among these, rising.
+fn pages_rising(
+    alloc: Global,
+    pairs: &[Attached],
+    id: SearchId,
+) -> Result<BTreeSet<u32>, AllocError>
+    ensures { IfOk result (λ pages. pages.keys ≡ pages_rising (filter_map (page_for id.0) pairs.now)) }
+{
+    let mut pages = BTreeSet::new(alloc);
+    for pair in pairs {
+        if pair.search == id.0 {
+            pages.insert(pair.page)?;
+        }
+    }
+    Ok(pages)
 }

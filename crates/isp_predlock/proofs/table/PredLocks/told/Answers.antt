@@ -1,3 +1,4 @@
+use Rattle.std.proofs.Common.{rules}
 use Rattle.isp_predlock.proofs.CallLaws.{told_at}
 use Rattle.isp_predlock.proofs.table.PredLocks.told.Goals as goal
 
