@@ -1,7 +1,7 @@
-use Rattle.std.proofs.Common.{◌≡◌, ℕ, List, filter_map, ap, sym, ◌∙◌, subst}
+use Rattle.std.proofs.Common.{◌≡◌, ℕ, List, filter, filter_map, ap, sym, ◌∙◌, subst}
 use Rattle.isp_base.specs.Lists.{Has}
 use Rattle.isp_predlock.specs.declared.table.Attached.{Attached}
-use Rattle.isp_predlock.specs.Inside.{held_at}
+use Rattle.isp_predlock.specs.Inside.{held_at, is_kept_pair}
 use Rattle.isp_predlock.specs.Tables.{PredTable, without_session}
 use Rattle.isp_predlock.proofs.InsideLaws.{gone, kept_attached, kept_there, still_listed}
 use Rattle.isp_predlock.proofs.table.PredLocks.release_all.Goals as goal
@@ -22,6 +22,6 @@ returns-clause-searches c =
     let t = c.self.inside in
     let slab = c.drop_searches.new.searches in
     ap (λ (l : List Attached). filter_map (held_at slab l) c.keep_order.new.order.items) c.keep_attached.ensures.kept
-    ∙ ap (λ (l : List ℕ). filter_map (held_at slab _) l) c.keep_order.ensures
+    ∙ ap (λ (l : List ℕ). filter_map (held_at slab (filter (is_kept_pair slab) t.attached.keys)) l) c.keep_order.ensures
     ∙ gone t.searches slab c.args.session c.drop_searches.ensures t.attached.keys t.order.items
     ∙ ap (λ (v : PredTable). without_session v.searches c.args.session) c.self.view_is
