@@ -1,8 +1,8 @@
 -- What the calls say of searches by their numbers, as said of the searches themselves.
-use Rattle.std.proofs.Common.{◌≡◌, ℕ, ◌+◌, ◌==◌, Bool, true, false, cond, List, [], ◌∷◌, ◌++◌, map, drop, take, get_or, length, length-map, filter_map, find, Result, Ok, Err, OnOk, is_ok, ◌<◌, option_map, Option, Some, None, inl, inr, refl, ap, sym, ◌∙◌, subst, arith, eqb-true, eq-eqb, ◌&&◌, ◌||◌}
+use Rattle.std.proofs.Common.{◌≡◌, ℕ, ◌+◌, ◌==◌, Bool, true, false, cond, List, [], ◌∷◌, ◌++◌, map, drop, take, get_or, length, filter_map, find, Result, Ok, Err, OnOk, is_ok, ◌<◌, option_map, Option, Some, None, inl, inr, refl, ap, sym, ◌∙◌, subst, arith, eqb-true, eq-eqb, ◌&&◌, ◌||◌}
 use Rattle.std.specs.List.{cons_option, list_all, list_any}
 use Rattle.std.proofs.lemmas.Bool.{and_parts}
-use Rattle.std.proofs.lemmas.List.{take_more}
+use Rattle.std.proofs.lemmas.List.{length-map, take_more}
 use Rattle.std.proofs.lemmas.Bool.Decides.{nat_tests}
 use Rattle.std.proofs.lemmas.List.Folds.{list_all-append, list_any-append}
 use Rattle.isp_base.specs.Lists.{Has}
@@ -69,7 +69,7 @@ pub by_ids : {A : Type 0} (f : HeldSearch → Option A) (searches : List HeldSea
     → filter_map (at_id searches f) ids ≡ filter_map f searches
 by_ids f searches named ids e = ap (λ (l : List ℕ). filter_map (at_id searches f) l) e ∙ by_number f searches named
 
-pub on_ok_items : {A E : Type 0} (r : Result ⊤ E) (xs ys zs all : List A) → xs ≡ cond (is_ok r) ys zs → ys ≡ all → OnOk r (xs ≡ all)
+pub on_ok_items : {A E : Type 0} (r : Result (Unit {0}) E) (xs ys zs all : List A) → xs ≡ cond (is_ok r) ys zs → ys ≡ all → OnOk r (xs ≡ all)
 on_ok_items (Ok u) xs ys zs all e f = e ∙ f
 on_ok_items (Err err) xs ys zs all e f = tt
 
@@ -286,7 +286,7 @@ module _ (p q : ℕ) (box : Corners) where
   copied_next searches now after i id inside is named done =
       let ids : List ℕ = map id_of searches in
       let same : id ≡ get_or ids i 0 = named ∙ ap (λ (l : List HeldSearch). get_or (map id_of l) i 0) is ∙ ap (λ (l : List ℕ). get_or l i 0) (copied_ids (take i ids) searches) in
-      let within : i < length ids = subst (λ (n : ℕ). i < n) (sym (length-map id_of searches)) inside in
+      let within : i < length ids = subst (λ (n : ℕ). i < n) (sym (length-map searches id_of)) inside in
       done ∙ ap (λ (l : List HeldSearch). map (copied_by id p q box) l) is ∙ copied_more (take i ids) id searches
       ∙ ap (λ (l : List ℕ). map (copied_among l p q box) searches)
         (ap (λ (k : ℕ). take i ids ++ k ∷ []) same ∙ sym (take_more ids i 0 within))

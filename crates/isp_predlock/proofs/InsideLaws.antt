@@ -6,6 +6,7 @@ use Rattle.std.proofs.lemmas.Bool.Decides.{nat_tests}
 use Rattle.std.proofs.lemmas.Option.{same_Some}
 use Rattle.slab.specs.Slab.{Slab, get}
 use Rattle.isp_base.specs.Lists.{Has}
+use Rattle.isp_base.specs.declared.page_no.PageNo.{PageNo}
 use Rattle.isp_forest.specs.Steps.{is_among}
 use Rattle.isp_laws.proofs.ListLaws.{Has-append, Has-append_left, Has-append_right, Has-filter}
 use Rattle.isp_searches.proofs.SeesLaws.{has_among, among_has}
@@ -14,7 +15,7 @@ use Rattle.isp_predlock.specs.declared.entries.Sought.{Sought}
 use Rattle.isp_predlock.specs.declared.table.Attached.{Attached}
 use Rattle.isp_predlock.specs.declared.table.PredLocks.TheInside.{Inside}
 use Rattle.isp_predlock.specs.Inside.{IsKept, held_as, held_at, is_kept_id, is_kept_pair, kept_without, page_for, view_of}
-use Rattle.isp_predlock.specs.Tables.{AreNamed, HeldSearch, attached_by, has_id, id_of, is_on_page, pages_found, passes_found, with_page}
+use Rattle.isp_predlock.specs.Tables.{AreNamed, HeldSearch, attached_by, has_id, id_of, is_on_page, page_number, pages_found, passes_found, with_page}
 use Rattle.isp_predlock.proofs.MemberLaws.{filter_map_members, filter_passes, has_filter, map_of_filter_map}
 
 -- the pair says that the search of that number is on page q
@@ -328,3 +329,11 @@ pairs_same of (a ∷ pairs) =
   where
     one : (of.search == a.search) ≡ (a.search == of.search) → (of.page == a.page) ≡ (a.page == of.page) → eq-value.it of a ≡ is_pair of.search of.page a
     one e f = ap (λ (b : Bool). b && (of.page == a.page)) e ∙ ap (λ (b : Bool). (a.search == of.search) && b) f
+
+-- pages by their numbers, and back
+abbrev pub numbered_pages : ℕ → PageNo
+numbered_pages page = record { 0 = page }
+
+pub numbers_back : (pages : List ℕ) → map page_number (map numbered_pages pages) ≡ pages
+numbers_back [] = refl
+numbers_back (page ∷ pages) = ap (λ (l : List ℕ). page ∷ l) (numbers_back pages)

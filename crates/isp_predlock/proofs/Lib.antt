@@ -2,3 +2,6 @@ pub mod MemberLaws
 pub mod InsideLaws
 pub mod SlabLaws
 pub mod CallLaws
+pub mod PathLaws
+pub mod PercolatingLaws
+pub mod AlikeLaws

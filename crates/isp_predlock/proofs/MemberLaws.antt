@@ -1,5 +1,5 @@
 -- Lists of which each member is changed the same way, and lists of what is there of each member.
-use Rattle.std.proofs.Common.{◌≡◌, ℕ, Bool, true, false, cond, List, [], ◌∷◌, ◌++◌, map, filter, filter_map, option_map, Option, Some, None, inl, inr, refl, ap, sym, ◌∙◌, subst}
+use Rattle.std.proofs.Common.{◌≡◌, ℕ, suc, ◌+◌, ◌<◌, arith, drop, drop-cons, get_or, length, Bool, true, false, cond, List, [], ◌∷◌, ◌++◌, map, filter, filter_map, option_map, Option, Some, None, inl, inr, refl, ap, sym, ◌∙◌, subst}
 use Rattle.std.specs.List.{cons_option}
 use Rattle.isp_base.specs.Lists.{Has}
 
@@ -73,3 +73,9 @@ has_filter t (z ∷ xs) x (inl same) e =
     let b : t z ≡ true = ap t same ∙ e in
     subst (λ (c : Bool). Has (cond c (z ∷ filter t xs) (filter t xs)) x) (sym b) (inl same)
 has_filter t (z ∷ xs) x (inr h) e = later (t z) z x (filter t xs) (has_filter t xs x h e)
+
+-- what stands at a place, and what is behind it
+pub next_item : {A : Type 0} (xs : List A) (i : ℕ) (d : A) → i < length xs → drop i xs ≡ get_or xs i d ∷ drop (i + 1) xs
+next_item xs i d inside =
+    let one : suc i ≡ i + 1 = omega arith in
+    drop-cons xs i d inside ∙ ap (λ (k : ℕ). get_or xs i d ∷ drop k xs) one
