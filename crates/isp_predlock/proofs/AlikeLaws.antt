@@ -133,11 +133,14 @@ module _ (tree : Tree) (d : Descent) where
       ap (λ (k : ℕ). not (k == s) && is_tested tree d.path d.box x.search) same.session
       ∙ ap (λ (c : Bool). not ((y.search).session == s) && c) (tested_same x y same)
 
+  abbrev told_if : ℕ → ℕ → Bool → Option (ℕ × ℕ)
+  told_if session q b = cond b (Some (session, q)) None
+
   told_same : (q : ℕ) (x y : TreeSearch) → IsSameSearch x y
-      → cond (is_among (percolates tree x.search d.box d.path) q) (Some ((x.search).session, q)) None ≡ cond (is_among (percolates tree y.search d.box d.path) q) (Some ((y.search).session, q)) None
+      → told_if (x.search).session q (is_among (percolates tree x.search d.box d.path) q) ≡ told_if (y.search).session q (is_among (percolates tree y.search d.box d.path) q)
   told_same q x y same =
-      ap (λ (l : List ℕ). cond (is_among l q) (Some ((x.search).session, q)) None) (percolates_same x y same)
-      ∙ ap (λ (k : ℕ). cond (is_among (percolates tree y.search d.box d.path) q) (Some (k, q)) None) same.session
+      ap (λ (l : List ℕ). told_if (x.search).session q (is_among l q)) (percolates_same x y same)
+      ∙ ap (λ (k : ℕ). told_if k q (is_among (percolates tree y.search d.box d.path) q)) same.session
 
   as_on_same : (x y : TreeSearch) → IsSameSearch x y → as_on x ≡ as_on y
   as_on_same x y same =

@@ -5,3 +5,4 @@ pub mod CallLaws
 pub mod PathLaws
 pub mod PercolatingLaws
 pub mod AlikeLaws
+pub mod TestedLaws
