@@ -214,7 +214,7 @@ others_stay_out tree d searches out =
     λ x has other. (list_any-append (is_last d.path) (x.search).on (percolates tree x.search d.box d.path)
     ∙ ap (λ (l : List ℕ). list_any (is_last d.path) (x.search).on || list_any (is_last d.path) l) (off x has other)
     ∙ ap (λ (c : Bool). c || false) (not_true (list_any (is_last d.path) (x.search).on) (λ e.
-      (let r : (q : ℕ) × Has (x.search).on q × (is_last d.path q ≡ true) = any_has (is_last d.path) (x.search).on e in out x r.0 has other (last_has d.path r.0 r.2) r.1)))) in
+    (let r : (q : ℕ) × Has (x.search).on q × (is_last d.path q ≡ true) = any_has (is_last d.path) (x.search).on e in out x r.0 has other (last_has d.path r.0 r.2) r.1)))) in
     let tested : (s : ℕ) → tested_of tree d s searches ≡ tested_of tree d s (searches_of searches d) = λ s. filter_kept (tests tree d s) of_tree searches
     (λ x has other. ap (λ (c : Bool). not ((x.search).session == s) && c) (untested x has other) ∙ and_false (not ((x.search).session == s))) in
     record {

@@ -1,5 +1,5 @@
 -- What the calls say of searches by their numbers, as said of the searches themselves.
-use Rattle.std.proofs.Common.{◌≡◌, ℕ, ◌+◌, ◌==◌, Bool, true, false, cond, List, [], ◌∷◌, ◌++◌, map, drop, take, get_or, length, filter_map, find, Result, Ok, Err, OnOk, is_ok, ◌<◌, option_map, Option, Some, None, inl, inr, refl, ap, sym, ◌∙◌, subst, arith, eqb-true, eq-eqb, ◌&&◌, ◌||◌}
+use Rattle.std.proofs.Common.{◌≡◌, ℕ, ◌+◌, ◌==◌, Bool, true, false, cond, List, [], ◌∷◌, ◌++◌, map, drop, take, get_or, length, filter_map, find, Result, Ok, Err, OnOk, is_ok, is_some, ◌<◌, option_map, Option, Some, None, inl, inr, refl, ap, sym, ◌∙◌, subst, arith, eqb-true, eq-eqb, ◌&&◌, ◌||◌}
 use Rattle.std.specs.List.{cons_option, list_all, list_any}
 use Rattle.std.proofs.lemmas.Bool.{and_parts}
 use Rattle.std.proofs.lemmas.List.{length-map, take_more}
@@ -86,20 +86,32 @@ there_by searches id test (Some x) at h =
 pub passing_there : (searches : List HeldSearch) (id : ℕ) (test : HeldSearch → Bool) → passes_at searches test id ≡ true → is_there searches id ≡ true
 passing_there searches id test h = there_by searches id test (find (has_id id) searches) refl h
 
+there_step : (b among : Bool) (x : HeldSearch) (o : Option HeldSearch) → is_some (option_map (λ (y : HeldSearch). y.sought) o) ≡ among
+    → is_some (option_map (λ (y : HeldSearch). y.sought) (cond b (Some x) o)) ≡ (b || among)
+there_step true among x o e = refl
+there_step false among x o e = e
+
+-- it finds one exactly where one is there
+pub some_there : (searches : List HeldSearch) (id : ℕ) → is_some (option_map (λ (x : HeldSearch). x.sought) (find (has_id id) searches)) ≡ is_there searches id
+some_there [] id = refl
+some_there (x ∷ xs) id = there_step (x.id == id) (is_there xs id) x (find (has_id id) xs) (some_there xs id)
+
 -- ---- what is told of it
 
-told_step : (searches : List HeldSearch) (id : SearchId) (s : Sought) (o : Option HeldSearch) → find (has_id id.0) searches ≡ o → Some s ≡ option_map (λ (x : HeldSearch). x.sought) o
-    → Some (record { search = id; session = s.session; predicate = s.predicate }) ≡ of_found told o
+abbrev on_as : ℕ → Sought → On
+on_as id sought = record { search = record { 0 = id }; session = sought.session; predicate = sought.predicate }
+
+told_step : (searches : List HeldSearch) (id : ℕ) (s : Sought) (o : Option HeldSearch) → find (has_id id) searches ≡ o → Some s ≡ option_map (λ (x : HeldSearch). x.sought) o
+    → Some (on_as id s) ≡ of_found told o
 told_step searches id s None at h = let no : ⊥ = cc in absurd no
 told_step searches id s (Some x) at h =
     let is : s ≡ x.sought = cc in
-    let i : IsFirst searches id.0 x = first searches id.0 x at in
-    ap (λ (y : Sought). Some (record { search = id; session = y.session; predicate = y.predicate })) is
-    ∙ ap (λ (k : ℕ). Some (record { search = record { 0 = k }; session = (x.sought).session; predicate = (x.sought).predicate })) (sym i.number)
+    let i : IsFirst searches id x = first searches id x at in
+    ap (λ (y : Sought). Some (on_as id y)) is ∙ ap (λ (k : ℕ). Some (on_as k x.sought)) (sym i.number)
 
 pub told_at : (searches : List HeldSearch) (id : SearchId) (s : Sought) → Some s ≡ option_map (λ (x : HeldSearch). x.sought) (find (has_id id.0) searches)
     → Some (record { search = id; session = s.session; predicate = s.predicate }) ≡ at_id searches told id.0
-told_at searches id s h = told_step searches id s (find (has_id id.0) searches) refl h
+told_at searches id s h = told_step searches id.0 s (find (has_id id.0) searches) refl h
 
 blocking_by : (b c : Bool) (x : HeldSearch) (on : On) (box : Corners) → satisfies on.predicate box ≡ c → Some on ≡ cond b (Some (on_of x)) None
     → cond c (Some on) None ≡ cond (b && satisfies (x.sought).predicate box) (Some (on_of x)) None
@@ -260,11 +272,11 @@ module _ (p q : ℕ) (box : Corners) where
   copied_more ids id searches =
       map_twice (copied_by id p q box) (copied_among ids p q box) searches
       ∙ map_members (λ x. copied_by id p q box (copied_among ids p q box x)) (copied_among (ids ++ id ∷ []) p q box) searches (λ x has.
-        (let y : HeldSearch = copied_among ids p q box x in
-        ap (λ (k : ℕ). cond (k == id) (copied_on p q box y) y) (among_id ids x (is_among ids x.id))
-        ∙ ap (λ (d : Bool). cond d (copied_on p q box y) y) (turned x.id id)
-        ∙ then_one (is_among ids x.id) (id == x.id) x
-        ∙ ap (λ (b : Bool). cond b (copied_on p q box x) x) (sym (list_any-append (λ k. k == x.id) ids (id ∷ [])))))
+      (let y : HeldSearch = copied_among ids p q box x in
+      ap (λ (k : ℕ). cond (k == id) (copied_on p q box y) y) (among_id ids x (is_among ids x.id))
+      ∙ ap (λ (d : Bool). cond d (copied_on p q box y) y) (turned x.id id)
+      ∙ then_one (is_among ids x.id) (id == x.id) x
+      ∙ ap (λ (b : Bool). cond b (copied_on p q box x) x) (sym (list_any-append (λ k. k == x.id) ids (id ∷ [])))))
     where
       turned : (a b : ℕ) → (a == b) ≡ (b == a)
       turned a b = grind (arith, nat_tests)
@@ -289,4 +301,4 @@ module _ (p q : ℕ) (box : Corners) where
       let within : i < length ids = subst (λ (n : ℕ). i < n) (sym (length-map searches id_of)) inside in
       done ∙ ap (λ (l : List HeldSearch). map (copied_by id p q box) l) is ∙ copied_more (take i ids) id searches
       ∙ ap (λ (l : List ℕ). map (copied_among l p q box) searches)
-        (ap (λ (k : ℕ). take i ids ++ k ∷ []) same ∙ sym (take_more ids i 0 within))
+      (ap (λ (k : ℕ). take i ids ++ k ∷ []) same ∙ sym (take_more ids i 0 within))

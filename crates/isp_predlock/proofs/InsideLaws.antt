@@ -156,7 +156,7 @@ module _ (old new : Slab Sought) (pairs : List Attached) (order : List ℕ) (id 
   begun there attached was now others =
       filter_map-append (held_at new pairs) order (id ∷ [])
       ∙ ap (λ (l : List HeldSearch). l ++ filter_map (held_at new pairs) (id ∷ []))
-        (filter_map_members (held_at new pairs) (held_at old pairs) order (λ j h. ap (option_map (held_as pairs j)) (others j (other_than there was j h))))
+      (filter_map_members (held_at new pairs) (held_at old pairs) order (λ j h. ap (option_map (held_as pairs j)) (others j (other_than there was j h))))
       ∙ ap (λ (o : Option Sought). filter_map (held_at old pairs) order ++ cons_option (option_map (held_as pairs id) o) []) now
       ∙ ap (λ (on : List ℕ). filter_map (held_at old pairs) order ++ record { id = id; sought = sought; on = on } ∷ []) (none_attached old pairs id attached was)
 

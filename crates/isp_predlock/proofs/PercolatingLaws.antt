@@ -113,7 +113,7 @@ listed_after : (searches : List HeldSearch) → AreNamed searches → (list : Li
 listed_after searches named list g x has r =
     list_any-append (λ (found : Percolation). (found.search.0 == x.id) && (found.page.0 == r)) list (filter_map (entered list g) searches)
     ∙ ap (λ (b : Bool). listed list x.id r || b)
-      (listed_block list g searches x.id r ∙ any_named searches named (λ (y : HeldSearch). goes_on list g y && (g.child.0 == r)) x has)
+    (listed_block list g searches x.id r ∙ any_named searches named (λ (y : HeldSearch). goes_on list g y && (g.child.0 == r)) x has)
 
 -- ---- down a path
 
@@ -171,7 +171,7 @@ module _ (tree : Tree) (forest : Forest tree) (b : Corners) (searches : List Hel
     among_child x y =
         among_now x y q
         ∙ ap (λ (c : Bool). (enters list x p q && (q == q)) || c)
-          (not_among (percolated tree y b (is_among x.on q || enters list x p q) (q ∷ rest)) q (λ h. not_itself (on_the_path tree y b (is_among x.on q || enters list x p q) q rest q h)))
+        (not_among (percolated tree y b (is_among x.on q || enters list x p q) (q ∷ rest)) q (λ h. not_itself (on_the_path tree y b (is_among x.on q || enters list x p q) q rest q h)))
         ∙ or_false (enters list x p q && (q == q)) ∙ ap (λ (c : Bool). enters list x p q && c) (eq-eqb q q refl) ∙ and_true (enters list x p q)
       where
         not_itself : Has rest q → ⊥
@@ -220,9 +220,9 @@ module _ (tree : Tree) (forest : Forest tree) (b : Corners) (searches : List Hel
     told_child p q rest g grows steps list none on =
         map_of_filter_map told_pair (entered list g) searches
         ∙ filter_map_members (λ x. option_map told_pair (entered list g x)) (λ x. cond (is_among (percolates tree (search_of x [] []) d.box d.path) q) (Some ((x.sought).session, q)) None) searches
-          (λ x has. told_step (goes_on list g x) x g q grows.child_is
-          ∙ ap (λ (c : Bool). cond c (Some ((x.sought).session, q)) None)
-            (goes_is p q g grows list x ∙ sym (among_child p q rest g grows steps list none x (search_of x [] [])) ∙ sym (on x q has (inl refl))))
+        (λ x has. told_step (goes_on list g x) x g q grows.child_is
+        ∙ ap (λ (c : Bool). cond c (Some ((x.sought).session, q)) None)
+        (goes_is p q g grows list x ∙ sym (among_child p q rest g grows steps list none x (search_of x [] [])) ∙ sym (on x q has (inl refl))))
         ∙ sym (filter_map_of_map (λ (t : TreeSearch). cond (is_among (percolates tree t.search d.box d.path) q) (Some ((t.search).session, q)) None) tree_search searches)
 
     told_from : (p : ℕ) (rest : List ℕ) (grown : List Growing) (list : List Percolation) → IsPath tree (p ∷ rest) → AreGrowing tree b (p ∷ rest) grown → NotYet list rest → GoesOn p rest list
@@ -236,7 +236,7 @@ module _ (tree : Tree) (forest : Forest tree) (b : Corners) (searches : List Hel
         (λ x r has h. on x r has (inr h) ∙ among_later p q rest g grows.0 steps.1 list none x (search_of x [] []) r h
         ∙ ap (λ (c : Bool). is_among (percolated tree (search_of x [] []) b (is_among x.on q || c) (q ∷ rest)) r) (sym (listed_child p q rest g grows.0 steps.1 list none x has)))
         ∙ ap (λ (l : List (ℕ × ℕ)). l ++ others)
-          (map-append told_pair list (filter_map (entered list g) searches) ∙ ap (λ (l : List (ℕ × ℕ)). told_pairs list ++ l) (told_child p q rest g grows.0 steps.1 list none on))
+        (map-append told_pair list (filter_map (entered list g) searches) ∙ ap (λ (l : List (ℕ × ℕ)). told_pairs list ++ l) (told_child p q rest g grows.0 steps.1 list none on))
         ∙ append_assoc (told_pairs list) (percolated_to tree d (tree_searches searches) q) others
 
 -- ---- the laws
@@ -266,11 +266,11 @@ percolates_on_path tree d grown searches w = by d.path refl w.steps w.grows
         (λ x r has h. ap (λ (p : List ℕ). is_among (percolates tree (search_of x [] []) d.box p) r) is
         ∙ ap (λ (c : Bool). is_among (percolated tree (search_of x [] []) d.box c (root ∷ rest)) r) (sym (or_false (is_among x.on root))))
         ∙ ap (λ (l : List (ℕ × ℕ)). l ++ flat_map (percolated_to tree d (tree_searches searches)) rest) (sym (none_of
-          (λ (t : TreeSearch). cond (is_among (percolates tree t.search d.box d.path) root) (Some ((t.search).session, root)) None) (tree_searches searches)
-          (λ t has. ap (λ (c : Bool). cond c (Some ((t.search).session, root)) None)
-          (ap (λ (p : List ℕ). is_among (percolates tree t.search d.box p) root) is
-          ∙ not_among (percolated tree t.search d.box (is_among (t.search).on root) (root ∷ rest)) root
-            (λ h. root_apart rest steps (on_the_path tree t.search d.box (is_among (t.search).on root) root rest root h))))))
+        (λ (t : TreeSearch). cond (is_among (percolates tree t.search d.box d.path) root) (Some ((t.search).session, root)) None) (tree_searches searches)
+        (λ t has. ap (λ (c : Bool). cond c (Some ((t.search).session, root)) None)
+        (ap (λ (p : List ℕ). is_among (percolates tree t.search d.box p) root) is
+        ∙ not_among (percolated tree t.search d.box (is_among (t.search).on root) (root ∷ rest)) root
+        (λ h. root_apart rest steps (on_the_path tree t.search d.box (is_among (t.search).on root) root rest root h))))))
       where
         root_apart : (rest : List ℕ) → IsPath tree (root ∷ rest) → Has rest root → ⊥
         root_apart rest steps h = let no : true ≡ false = sym (eq-eqb root root refl) ∙ apart tree w.forest root rest steps root h in let never : ⊥ = cc in never

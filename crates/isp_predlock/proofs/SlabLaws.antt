@@ -11,7 +11,7 @@ at_map session (o ∷ slots) (suc id) = at_map session slots id
 
 module _ {F : Type 0} (step : F → ℕ → MutBor Sought → Bool → MutBor Sought → F → Type 0) (session : ℕ) (f : F)
     (tells : (key : ℕ) (shown : MutBor Sought) (keep : Bool) (left : MutBor Sought) (next : F) → step f key shown keep left next
-        → (keep ≡ not ((shown.now).session == session)) × (left.now ≡ shown.now) × (next ≡ f)) where
+    → (keep ≡ not ((shown.now).session == session)) × (left.now ≡ shown.now) × (next ≡ f)) where
   kept_one : (b keep : Bool) (old new : Sought) → (old.session == session) ≡ b → keep ≡ not (old.session == session) → new ≡ old
       → cond keep (Some new) None ≡ kept_without session (Some old)
   kept_one true keep old new e k same =

@@ -104,7 +104,7 @@ module _ (tree : Tree) (d : Descent) (grown : List Growing) (searches : List Hel
   tested_list =
       filter_of_map (tests tree d placing.session) tree_search searches
       ∙ ap (λ (l : List HeldSearch). map tree_search l)
-        (sym (filter_members (is_tested_by placing more) (λ x. tests tree d placing.session (tree_search x)) searches tested_is))
+      (sym (filter_members (is_tested_by placing more) (λ x. tests tree d placing.session (tree_search x)) searches tested_is))
 
   satisfied_list : satisfied_of tree d placing.session (tree_searches searches) ≡ map tree_search blocked
   satisfied_list =
@@ -112,8 +112,8 @@ module _ (tree : Tree) (d : Descent) (grown : List Growing) (searches : List Hel
       ap (λ (l : List TreeSearch). filter asks l) tested_list
       ∙ filter_of_map asks tree_search (filter (is_tested_by placing more) searches)
       ∙ ap (λ (l : List HeldSearch). map tree_search l)
-        (filter_twice (λ (x : HeldSearch). satisfies (x.sought).predicate d.box) (is_tested_by placing more) searches
-        ∙ ap (λ (b : Corners). filter (λ (x : HeldSearch). is_tested_by placing more x && satisfies (x.sought).predicate b) searches) box)
+      (filter_twice (λ (x : HeldSearch). satisfies (x.sought).predicate d.box) (is_tested_by placing more) searches
+      ∙ ap (λ (b : Corners). filter (λ (x : HeldSearch). is_tested_by placing more x && satisfies (x.sought).predicate b) searches) box)
 
   pub tested_as : TestsAs tree d searches placing (percolating_on searches grown)
   tested_as = record {

@@ -28,7 +28,8 @@ impl PredLocks {
         alloc: Global,
         grown: &[Growing],
     ) -> Result<Vec<Percolation>, AllocError>
-        ensures percolating { IfOk result (λ list. list.items ≡ percolating_on self.now.searches grown.now) }
+        ensures percolating { IfOk result (λ list. list.items
+            ≡ percolating_on self.now.searches grown.now) }
         ensures there { IfOk result (λ list. are_there self.now.searches list.items ≡ true) }
     {
         let mut list = Vec::new(alloc);
@@ -72,12 +73,7 @@ impl PredLocks {
     }
 
     // The search with the child, if it percolates to it.
-    fn entered(
-        &self,
-        id: SearchId,
-        growing: &Growing,
-        found: &[Percolation],
-    ) -> Option<Percolation>
+    fn entered(&self, id: SearchId, growing: &Growing, found: &[Percolation]) -> Option<Percolation>
         ensures { result ≡ at_id self.now.searches (entered found.now growing.now) id.0 }
     {
         let on = self.told(id)?;
@@ -123,7 +119,8 @@ impl PredLocks {
     fn copy_one(&mut self, id: SearchId, from: PageNo, to: PageNo, b: &Box4)
         requires named { AreNamed self.old.searches }
         requires room { 0 < self.old.spare }
-        ensures copied { self.new.searches ≡ map (copied_by id.0 from.0 to.0 b.now) self.old.searches }
+        ensures copied { self.new.searches
+            ≡ map (copied_by id.0 from.0 to.0 b.now) self.old.searches }
         ensures spare { self.old.spare ≤ self.new.spare + 1 }
     {
         if self.is_copied(id, from, b) {

@@ -84,6 +84,10 @@ impl PredLocks {
         ensures { result ≡ at_id self.now.searches (id_in session) id.0 }
     {
         let on = self.told(id)?;
-        if on.session == session { Some(on.search) } else { None }
+        if on.session == session {
+            Some(on.search)
+        } else {
+            None
+        }
     }
 }

@@ -2,7 +2,7 @@
 //!
 //! To find a search, to ask whether it is on a page and to attach it to one take a look-up each, however many there are.
 
-ghost use Rattle.std.specs.Prelude.{◌≡◌, ◌+◌, ◌<◌, ◌≤◌, [], true, false, filter_map, length, map, IfOk, OnOk, OnErr};
+ghost use Rattle.std.specs.Prelude.{◌≡◌, ◌+◌, ◌<◌, ◌≤◌, [], true, false, filter_map, is_some, length, map, IfOk, OnOk, OnErr};
 ghost use Rattle.isp_events.specs.Lines.{pages_rising};
 ghost use Rattle.isp_events.specs.State.{session_count};
 ghost use Rattle.isp_predlock.specs.Inside.{page_for};
@@ -89,7 +89,8 @@ impl PredLocks {
 
     /// The search of that number, as it began.
     pub fn sought(&self, id: SearchId) -> Option<Sought>
-        ensures { result ≡ sought_of self.now.searches id.0 }
+        ensures sought { result ≡ sought_of self.now.searches id.0 }
+        ensures there { is_some result ≡ is_there self.now.searches id.0 }
     {
         self.searches.get(id.0).copied()
     }
@@ -161,7 +162,8 @@ fn pages_rising(
     pairs: &[Attached],
     id: SearchId,
 ) -> Result<BTreeSet<u32>, AllocError>
-    ensures { IfOk result (λ pages. pages.keys ≡ pages_rising (filter_map (page_for id.0) pairs.now)) }
+    ensures { IfOk result (λ pages. pages.keys
+        ≡ pages_rising (filter_map (page_for id.0) pairs.now)) }
 {
     let mut pages = BTreeSet::new(alloc);
     for pair in pairs {

@@ -77,7 +77,8 @@ impl PredLocks {
         placing: &Placing,
         more: &[Percolation],
     ) -> Result<Vec<On>, AllocError>
-        ensures { IfOk result (λ list. list.items ≡ in_the_way placing.now more.now self.now.searches) }
+        ensures { IfOk result (λ list. list.items
+            ≡ in_the_way placing.now more.now self.now.searches) }
     {
         let all = self.blocking_among(alloc, self.ids(), placing, more)?;
         firsts(alloc, all.as_slice())

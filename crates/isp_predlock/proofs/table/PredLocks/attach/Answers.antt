@@ -5,8 +5,8 @@ use Rattle.isp_base.specs.Lists.{Has}
 use Rattle.isp_forest.specs.Steps.{is_among}
 use Rattle.isp_searches.proofs.SeesLaws.{among_has}
 use Rattle.isp_predlock.specs.declared.table.Attached.{Attached}
-use Rattle.isp_predlock.specs.Inside.{held_at, view_of}
-use Rattle.isp_predlock.specs.Tables.{HeldSearch, PredTable, attached_by, id_of, is_on, is_there, with_page_at}
+use Rattle.isp_predlock.specs.Inside.{held_at}
+use Rattle.isp_predlock.specs.Tables.{PredTable, is_on, is_there, with_page_at}
 use Rattle.isp_predlock.proofs.InsideLaws.{attached_after, attached_there, ids_listed, is_pair, on_seen, pairs_same}
 use Rattle.isp_predlock.proofs.table.PredLocks.attach.Goals as goal
 

@@ -1,4 +1,4 @@
-use Rattle.std.proofs.Common.{rules, ◌≡◌, ◌∙◌, ◌∷◌, ◌+◌, [], List, ap, sym, arith, drop, drop_of_length-le, get_or, map}
+use Rattle.std.proofs.Common.{◌≡◌, ◌∙◌, ◌∷◌, ◌+◌, List, sym, arith, drop, drop_of_length-le, get_or, map}
 use Rattle.isp_predlock.specs.declared.entries.Percolation.{Percolation}
 use Rattle.isp_predlock.specs.Tables.{HeldSearch, with_pages}
 use Rattle.isp_predlock.proofs.MemberLaws.{next_item}

@@ -1,10 +1,9 @@
-use Rattle.std.proofs.Common.{◌≡◌, ℕ, List, ◌∷◌, ◌++◌, [], false, filter_map, ap, sym, ◌∙◌, subst}
+use Rattle.std.proofs.Common.{◌≡◌, ℕ, List, ◌∷◌, ◌++◌, [], filter_map, ap, sym, ◌∙◌, subst}
 use Rattle.indexmap.specs.IndexSet.{spare}
 use Rattle.isp_base.specs.Lists.{Has}
-use Rattle.slab.specs.Slab.{get}
 use Rattle.isp_predlock.specs.Inside.{held_at}
 use Rattle.isp_predlock.specs.Tables.{HeldSearch, PredTable, is_there, with_begun}
-use Rattle.isp_predlock.proofs.InsideLaws.{AllThere, begun, begun_attached, begun_listed, begun_there, fresh}
+use Rattle.isp_predlock.proofs.InsideLaws.{begun, begun_attached, begun_listed, begun_there, fresh}
 use Rattle.isp_predlock.proofs.table.PredLocks.begin.Goals as goal
 
 pub invariant_of-self-2 : goal.invariant_of-self-2

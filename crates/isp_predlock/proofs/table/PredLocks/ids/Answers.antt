@@ -1,4 +1,4 @@
-use Rattle.std.proofs.Common.{◌≡◌, List, map, sym, ◌∙◌, ap, subst}
+use Rattle.std.proofs.Common.{map, sym, ◌∙◌, ap, subst}
 use Rattle.isp_predlock.specs.Tables.{AreNamed, PredTable, id_of}
 use Rattle.isp_predlock.proofs.InsideLaws.{ids_listed, named}
 use Rattle.isp_predlock.proofs.table.PredLocks.ids.Goals as goal

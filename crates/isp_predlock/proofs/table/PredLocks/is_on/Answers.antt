@@ -1,4 +1,4 @@
-use Rattle.std.proofs.Common.{◌≡◌, sym, ◌∙◌, ap}
+use Rattle.std.proofs.Common.{sym, ◌∙◌, ap}
 use Rattle.isp_predlock.specs.Tables.{PredTable, is_on}
 use Rattle.isp_predlock.proofs.InsideLaws.{on_seen, pairs_same}
 use Rattle.isp_predlock.proofs.table.PredLocks.is_on.Goals as goal

@@ -1,4 +1,4 @@
-use Rattle.std.proofs.Common.{◌≡◌, ℕ, List, filter, filter_map, ap, sym, ◌∙◌, subst}
+use Rattle.std.proofs.Common.{ℕ, List, filter, filter_map, ap, sym, ◌∙◌, subst}
 use Rattle.isp_base.specs.Lists.{Has}
 use Rattle.isp_predlock.specs.declared.table.Attached.{Attached}
 use Rattle.isp_predlock.specs.Inside.{held_at, is_kept_pair}

@@ -6,5 +6,5 @@ use Rattle.isp_predlock.proofs.table.PredLocks.tests_among.Given as goal
 abbrev pub invariant-loop-id : goal.invariant-loop-id
 invariant-loop-id l =
     (l.count + length (filter_map (at_id l.self.searches (tested l.placing l.more)) (drop l.id-index l.ids))
-        ≡ length (filter_map (at_id l.self.searches (tested l.placing l.more)) l.ids))
+    ≡ length (filter_map (at_id l.self.searches (tested l.placing l.more)) l.ids))
     × (l.count ≤ l.id-index)
