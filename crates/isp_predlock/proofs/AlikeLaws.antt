@@ -12,12 +12,11 @@ use Rattle.isp_forest.specs.Steps.{is_among, is_last}
 use Rattle.isp_forest.specs.Tree.{Tree, page_at}
 use Rattle.isp_laws.proofs.ListLaws.{Has-append, Has-append_left, Has-append_right}
 use Rattle.isp_searches.specs.SearchLaws.{IsLike}
-use Rattle.isp_searches.proofs.SeesLaws.{among_has, has_among}
-use Rattle.isp_events.specs.Lines as line
+use Rattle.isp_searches.proofs.SeesLaws.{among_has}
 use Rattle.isp_events.specs.Next.{Descent}
-use Rattle.isp_events.specs.Placing.{as_on, first_of_session, is_of_tree, percolated_to, percolating, searches_of, tests}
+use Rattle.isp_events.specs.Placing.{as_on, first_of_session, is_of_tree, percolated_to, searches_of, tests}
 use Rattle.isp_events.specs.State.{TreeSearch, session_numbers}
-use Rattle.isp_predlock.specs.MachineWords.{IsSameSearch, PlaceAlike, in_the_way_of, satisfied_of, search_of, tested_of}
+use Rattle.isp_predlock.specs.MachineWords.{IsSameSearch, PlaceAlike, satisfied_of, search_of, tested_of}
 use Rattle.isp_predlock.specs.Tables.{HeldSearch, copied_on, is_copied, with_page}
 use Rattle.isp_predlock.proofs.MemberLaws.{filter_map_members}
 

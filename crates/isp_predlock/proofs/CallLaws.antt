@@ -1,16 +1,16 @@
 -- What the calls say of searches by their numbers, as said of the searches themselves.
 use Rattle.std.proofs.Common.{◌≡◌, ℕ, ◌+◌, ◌==◌, Bool, true, false, cond, List, [], ◌∷◌, ◌++◌, map, drop, take, get_or, length, filter_map, find, Result, Ok, Err, OnOk, is_ok, is_some, ◌<◌, option_map, Option, Some, None, inl, inr, refl, ap, sym, ◌∙◌, subst, arith, eqb-true, eq-eqb, ◌&&◌, ◌||◌}
-use Rattle.std.specs.List.{cons_option, list_all, list_any}
+use Rattle.std.specs.List.{cons_option, list_all}
 use Rattle.std.proofs.lemmas.Bool.{and_parts}
 use Rattle.std.proofs.lemmas.List.{length-map, take_more}
 use Rattle.std.proofs.lemmas.Bool.Decides.{nat_tests}
 use Rattle.std.proofs.lemmas.List.Folds.{list_all-append, list_any-append}
 use Rattle.isp_base.specs.Lists.{Has}
 use Rattle.isp_mbr.specs.Corners.{Corners}
-use Rattle.isp_mbr.specs.Predicates.{may_hold, satisfies}
+use Rattle.isp_mbr.specs.Predicates.{satisfies}
 use Rattle.isp_forest.specs.Steps.{is_among}
-use Rattle.isp_laws.proofs.ListLaws.{Has-map, Has-map_of, Source}
-use Rattle.isp_searches.proofs.SeesLaws.{among_has, has_among}
+use Rattle.isp_laws.proofs.ListLaws.{Has-map_of}
+use Rattle.isp_searches.proofs.SeesLaws.{has_among}
 use Rattle.isp_base.specs.declared.page_no.PageNo.{PageNo}
 use Rattle.isp_predlock.specs.declared.entries.Growing.{Growing}
 use Rattle.isp_predlock.specs.declared.entries.On.{On}

@@ -8,14 +8,14 @@ use Rattle.slab.specs.Slab.{Slab, get}
 use Rattle.isp_base.specs.Lists.{Has}
 use Rattle.isp_base.specs.declared.page_no.PageNo.{PageNo}
 use Rattle.isp_forest.specs.Steps.{is_among}
-use Rattle.isp_laws.proofs.ListLaws.{Has-append, Has-append_left, Has-append_right, Has-filter}
+use Rattle.isp_laws.proofs.ListLaws.{Has-append, Has-append_left, Has-append_right}
 use Rattle.isp_searches.proofs.SeesLaws.{has_among, among_has}
 use Rattle.isp_predlock.specs.contracts.table.AttachedPartialEq.TheImpl.{eq-value}
 use Rattle.isp_predlock.specs.declared.entries.Sought.{Sought}
 use Rattle.isp_predlock.specs.declared.table.Attached.{Attached}
 use Rattle.isp_predlock.specs.declared.table.PredLocks.TheInside.{Inside}
 use Rattle.isp_predlock.specs.Inside.{IsKept, held_as, held_at, is_kept_id, is_kept_pair, kept_without, page_for, view_of}
-use Rattle.isp_predlock.specs.Tables.{AreNamed, HeldSearch, attached_by, has_id, id_of, is_on_page, page_number, pages_found, passes_found, with_page}
+use Rattle.isp_predlock.specs.Tables.{AreNamed, HeldSearch, attached_by, has_id, id_of, is_on_page, page_number, pages_found, passes_found}
 use Rattle.isp_predlock.proofs.MemberLaws.{filter_map_members, filter_passes, has_filter, map_of_filter_map}
 
 -- the pair says that the search of that number is on page q

@@ -1,5 +1,5 @@
 -- Lists of which each member is changed the same way, and lists of what is there of each member.
-use Rattle.std.proofs.Common.{◌≡◌, ℕ, suc, ◌+◌, ◌<◌, arith, drop, drop-cons, get_or, length, Bool, true, false, cond, List, [], ◌∷◌, ◌++◌, map, filter, filter_map, option_map, Option, Some, None, inl, inr, refl, ap, sym, ◌∙◌, subst}
+use Rattle.std.proofs.Common.{◌≡◌, ℕ, suc, ◌+◌, ◌<◌, arith, drop, drop-cons, get_or, length, Bool, true, false, cond, List, [], ◌∷◌, map, filter, filter_map, option_map, Option, Some, None, inl, inr, refl, ap, sym, ◌∙◌, subst}
 use Rattle.std.specs.List.{cons_option}
 use Rattle.isp_base.specs.Lists.{Has}
 

@@ -1,5 +1,5 @@
 -- Which page of a path grows into what a search looks for, by the forest alone: a page is named once, and a path goes down.
-use Rattle.std.proofs.Common.{◌≡◌, ◌⊎◌, inl, inr, ℕ, suc, ◌+◌, ◌≤◌, ◌<◌, ◌==◌, Bool, true, false, cond, Option, Some, None, List, [], ◌∷◌, refl, ap, sym, ◌∙◌, arith, subst, eq-eqb, eqb-true, ◌||◌, ◌&&◌}
+use Rattle.std.proofs.Common.{◌≡◌, inl, inr, ℕ, suc, ◌+◌, ◌≤◌, ◌<◌, ◌==◌, Bool, true, false, cond, Option, Some, None, List, [], ◌∷◌, refl, ap, sym, ◌∙◌, arith, subst, eq-eqb, eqb-true, ◌||◌, ◌&&◌}
 use Rattle.std.specs.List.{cons_option}
 use Rattle.isp_base.specs.Lists.{Has, times}
 use Rattle.isp_mbr.specs.Corners.{Corners}

@@ -1,5 +1,5 @@
 -- That the searches that percolate are found by what grows on a path.
-use Rattle.std.proofs.Common.{◌≡◌, inl, inr, ℕ, ℤ, ◌==◌, Bool, true, false, not, cond, Option, Some, None, List, [], ◌∷◌, ◌++◌, append-nil, append_assoc, map, filter_map, flat_map, option_map, refl, ap, sym, ◌∙◌, subst, eq-eqb, eqb-true, ◌||◌, ◌&&◌}
+use Rattle.std.proofs.Common.{◌≡◌, inl, inr, ℕ, ℤ, ◌==◌, Bool, true, false, not, cond, Option, Some, None, List, [], ◌∷◌, ◌++◌, append-nil, append_assoc, filter_map, flat_map, option_map, refl, ap, sym, ◌∙◌, subst, eq-eqb, eqb-true, ◌||◌, ◌&&◌}
 use Rattle.std.specs.List.{cons_option, list_any}
 use Rattle.std.proofs.lemmas.List.{map-append}
 use Rattle.std.proofs.lemmas.List.Folds.{list_any-append}

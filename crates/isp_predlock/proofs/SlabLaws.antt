@@ -1,6 +1,6 @@
 -- A slab of which the searches of a session went: each key has what it had, but for theirs.
 use Rattle.std.proofs.Common.{◌≡◌, ℕ, zero, suc, ◌+◌, ◌==◌, Bool, true, false, not, cond, List, [], ◌∷◌, map, get_or, Option, Some, None, MutBor, refl, ap, sym, ◌∙◌, subst}
-use Rattle.slab.specs.Slab.{CalledAt, RetainsFrom, Slab, get}
+use Rattle.slab.specs.Slab.{RetainsFrom, Slab, get}
 use Rattle.isp_predlock.specs.declared.entries.Sought.{Sought}
 use Rattle.isp_predlock.specs.Inside.{kept_without}
 

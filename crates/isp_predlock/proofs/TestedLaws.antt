@@ -1,22 +1,19 @@
 -- That an entry is tested against the searches that the machine says, and that those that percolate are let in once they are
 -- attached.
-use Rattle.std.proofs.Common.{◌≡◌, inl, inr, ℕ, ℤ, ◌==◌, Bool, true, false, not, cond, Option, Some, None, List, [], ◌∷◌, ◌++◌, map, filter, filter_map, find, length, option_map, unwrap_or, refl, ap, sym, ◌∙◌, subst, arith, eqb-true, eq-eqb, ◌||◌, ◌&&◌}
+use Rattle.std.proofs.Common.{◌≡◌, ℕ, ℤ, ◌==◌, Bool, true, false, not, cond, Option, Some, List, [], ◌∷◌, ◌++◌, map, filter, filter_map, find, length, option_map, unwrap_or, refl, ap, sym, ◌∙◌, arith, eqb-true, ◌||◌, ◌&&◌}
 use Rattle.std.specs.List.{last_or, list_any}
-use Rattle.std.proofs.lemmas.Bool.{or_cases}
 use Rattle.std.proofs.lemmas.Bool.Decides.{nat_tests}
 use Rattle.std.proofs.lemmas.List.{length-map}
 use Rattle.std.proofs.lemmas.List.Folds.{list_any-append}
 use Rattle.isp_base.specs.Lists.{Has}
 use Rattle.isp_mbr.specs.Corners.{Corners}
 use Rattle.isp_mbr.specs.Predicates.{satisfies}
-use Rattle.isp_forest.specs.Attach.{is_tested, let_in, percolates}
+use Rattle.isp_forest.specs.Attach.{let_in, percolates}
 use Rattle.isp_forest.specs.Search.{Search}
 use Rattle.isp_forest.specs.Steps.{is_among, is_last}
 use Rattle.isp_forest.specs.Tree.{Tree}
-use Rattle.isp_laws.proofs.ListLaws.{Has-append, Has-append_left, Has-append_right, Has-filter}
 use Rattle.isp_searches.specs.SearchLaws.{IsLike}
 use Rattle.isp_searches.proofs.SeesLaws.{among_has, has_among}
-use Rattle.isp_events.specs.Lines as line
 use Rattle.isp_events.specs.Next.{Descent}
 use Rattle.isp_events.specs.Placing.{as_on, first_of_session, last_page, tests}
 use Rattle.isp_events.specs.State.{TreeSearch, session_numbers}
@@ -26,9 +23,9 @@ use Rattle.isp_predlock.specs.declared.entries.Percolation.{Percolation}
 use Rattle.isp_predlock.specs.declared.entries.Placing.{Placing}
 use Rattle.isp_predlock.specs.declared.entries.Sought.{Sought}
 use Rattle.isp_predlock.specs.Entering.{listed, percolating_on}
-use Rattle.isp_predlock.specs.MachineWords.{GrowsOnPath, TestsAs, as_told, in_the_way_of, satisfied_of, search_of, tested_of, tree_search, tree_searches}
+use Rattle.isp_predlock.specs.MachineWords.{GrowsOnPath, TestsAs, as_told, satisfied_of, search_of, tested_of, tree_search, tree_searches}
 use Rattle.isp_predlock.specs.Tables.{HeldSearch, attached_by, on_of, with_page, with_pages}
-use Rattle.isp_predlock.specs.Testing.{blocking, first_of, in_the_way, is_blocking, is_tested_by, tested}
+use Rattle.isp_predlock.specs.Testing.{first_of, is_blocking, is_tested_by}
 use Rattle.isp_predlock.proofs.MemberLaws.{filter_map_members, filter_map_tests, filter_members, map_of_filter_map}
 use Rattle.isp_predlock.proofs.PercolatingLaws.{listed_percolates}
 

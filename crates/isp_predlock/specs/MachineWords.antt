@@ -1,10 +1,10 @@
 -- The searches of a table in the words of the page machine, and the laws that join its calls to the machine's steps.
-use Rattle.std.specs.Prelude.{◌≡◌, ℕ, ℤ, false, List, [], ◌∷◌, filter, filter_map, length, map, Some}
+use Rattle.std.specs.Prelude.{◌≡◌, ℕ, ℤ, false, List, [], filter, filter_map, length, map}
 use Rattle.std.specs.List.{AllZip}
 use Rattle.isp_base.specs.Lists.{Has}
 use Rattle.isp_mbr.specs.Corners.{Corners}
 use Rattle.isp_mbr.specs.Predicates.{satisfies}
-use Rattle.isp_forest.specs.Attach.{copied, let_in, percolates}
+use Rattle.isp_forest.specs.Attach.{copied, let_in}
 use Rattle.isp_forest.specs.Forest.{Forest}
 use Rattle.isp_forest.specs.Place.{IsPath}
 use Rattle.isp_forest.specs.Search.{Search}

@@ -49,30 +49,27 @@ static SHARED: [Act; 21] = [
     Act::SeesPage(16, &[(1, 1), (2, 3), (0, 3)]),
 ];
 
-/// What grows where (50 5) is placed on page 21 of a tree of sixteen points, whose root is page 16.
-static GROWN: [Grown; 2] = [
-    Grown {
-        parent: 16,
-        child: 23,
-        old: [20, 0, 30, 30],
-        new: [20, 0, 50, 30],
-    },
-    Grown {
-        parent: 23,
-        child: 21,
-        old: [30, 0, 30, 30],
-        new: [30, 0, 50, 30],
-    },
-];
-
-/// Session 1 searches (40 0,45 30), which no box meets, and is on the root. Session 2's entry lets the search in, down to the
-/// leaf, and is tested against it. Then session 3's entry at (42 6) has to wait, session 1's own doesn't, and where the leaf is
+/// Session 1 searches (40 0,45 30), which no box of a tree of sixteen points meets, and is on its root, page 16. Session 2's
+/// entry at (50 5) lets the search in, down to the leaf, and is tested against it. Then session 3's entry at (42 6) has to wait, session 1's own doesn't, and where the leaf is
 /// divided the search is copied to the part that may hold what it looks for.
 static LET_IN: [Act; 12] = [
     Act::Begins(1, [40, 0, 45, 30], 0),
     Act::Attaches(0, 16),
     Act::Grows(
-        &GROWN,
+        &[
+            Grown {
+                parent: 16,
+                child: 23,
+                old: [20, 0, 30, 30],
+                new: [20, 0, 50, 30],
+            },
+            Grown {
+                parent: 23,
+                child: 21,
+                old: [30, 0, 30, 30],
+                new: [30, 0, 50, 30],
+            },
+        ],
         &[(0, 1, 23), (0, 1, 21)],
         Try {
             session: 2,

@@ -1,4 +1,4 @@
-use Rattle.std.proofs.Common.{rules, ◌≡◌, ◌<◌, ◌≤◌, ◌∙◌, ℕ, List, ap, sym, arith, subst, get_or, length, map}
+use Rattle.std.proofs.Common.{rules, ◌≡◌, ◌<◌, ◌≤◌, ◌∙◌, ℕ, List, ap, arith, subst, get_or, length, map}
 use Rattle.std.proofs.lemmas.List.{length-map, take_all}
 use Rattle.isp_predlock.specs.Tables.{HeldSearch, id_of}
 use Rattle.isp_predlock.proofs.CallLaws.{copied_all, copied_among, copied_next, copied_nobody}

@@ -1,4 +1,4 @@
-use Rattle.std.proofs.Common.{rules, sym, ◌∙◌}
+use Rattle.std.proofs.Common.{sym, ◌∙◌}
 use Rattle.isp_predlock.specs.Tables.{is_copied}
 use Rattle.isp_predlock.proofs.CallLaws.{copied_none, copied_one, passing_there}
 use Rattle.isp_predlock.proofs.table.PredLocks.copy_one.Goals as goal

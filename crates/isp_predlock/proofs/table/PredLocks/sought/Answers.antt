@@ -1,4 +1,4 @@
-use Rattle.std.proofs.Common.{◌≡◌, is_some, Option, sym, ◌∙◌, ap}
+use Rattle.std.proofs.Common.{is_some, Option, sym, ◌∙◌, ap}
 use Rattle.isp_predlock.specs.declared.entries.Sought.{Sought}
 use Rattle.isp_predlock.specs.Tables.{PredTable, sought_of}
 use Rattle.isp_predlock.proofs.CallLaws.{some_there}
