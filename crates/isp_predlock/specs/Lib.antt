@@ -1,0 +1,5 @@
+pub mod Tables
+pub mod Entering
+pub mod Testing
+pub mod Inside
+pub mod MachineWords
